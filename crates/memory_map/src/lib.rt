@@ -1,0 +1,146 @@
+// The map of a module of depth 1, 2 or 3: where lines, counter blocks, nodes and shadow entries lie.
+ghost use mathlib.Core.Path.{_≡_};
+ghost use Prim.Native.Nat.{_+_, _<_, _≤_};
+ghost use Rattle.memory_map.specs.Map.{
+  node,
+  shadow,
+  cellOf,
+  InMap,
+  pageOf,
+  placeOf,
+  levelStart,
+  shadowStart,
+  arrayLength,
+  cacheLength,
+  slotOf,
+  levelOf,
+  pages as pagesOf,
+  lines as linesOf,
+  nodes as nodesOf,
+  slots as slotsOf,
+  cells as cellsOf,
+  belongs as belongsTo,
+};
+
+pub fn pages(h: usize) -> usize
+    requires { ⌜ (1 ≤ h) × (h ≤ 3) ⌝ }
+    ensures { λ r. ⌜ r ≡ pagesOf h ⌝ }
+{
+    1 << (3 * h)
+}
+
+pub fn lines(h: usize) -> usize
+    requires { ⌜ (1 ≤ h) × (h ≤ 3) ⌝ }
+    ensures { λ r. ⌜ r ≡ linesOf h ⌝ }
+{
+    64 << (3 * h)
+}
+
+pub fn page_of(line: usize) -> usize
+    ensures { λ r. ⌜ r ≡ pageOf line ⌝ }
+{
+    line / 64
+}
+
+pub fn place_of(line: usize) -> usize
+    ensures { λ r. ⌜ r ≡ placeOf line ⌝ }
+{
+    line % 64
+}
+
+pub fn nodes(h: usize, l: usize) -> usize
+    requires { ⌜ (1 ≤ h) × ((h ≤ 3) × (l ≤ h)) ⌝ }
+    ensures { λ r. ⌜ r ≡ nodesOf h l ⌝ }
+{
+    1 << (3 * (h - l))
+}
+
+// The first cell of a level. The level above the top starts with the shadow cells.
+pub fn level_start(h: usize, l: usize) -> usize
+    requires { ⌜ (1 ≤ h) × ((h ≤ 3) × (l ≤ h + 1)) ⌝ }
+    ensures { λ r. ⌜ r ≡ levelStart h l ⌝ }
+{
+    let mut start = lines(h);
+    let mut k = 0;
+    while k < l {
+        start += nodes(h, k);
+        k += 1;
+    }
+    start
+}
+
+pub fn slots(h: usize) -> usize
+    requires { ⌜ (1 ≤ h) × (h ≤ 3) ⌝ }
+    ensures { λ r. ⌜ r ≡ slotsOf h ⌝ }
+{
+    4 + 2 * h
+}
+
+pub fn node_cell(h: usize, l: usize, i: usize) -> usize
+    requires { ⌜ (1 ≤ h) × ((h ≤ 3) × InMap h (node l i)) ⌝ }
+    ensures { λ r. ⌜ r ≡ cellOf h (node l i) ⌝ }
+{
+    level_start(h, l) + i
+}
+
+pub fn shadow_cell(h: usize, s: usize) -> usize
+    requires { ⌜ (1 ≤ h) × ((h ≤ 3) × InMap h (shadow s)) ⌝ }
+    ensures { λ r. ⌜ r ≡ cellOf h (shadow s) ⌝ }
+{
+    level_start(h, h + 1) + s
+}
+
+pub fn cells(h: usize) -> usize
+    requires { ⌜ (1 ≤ h) × (h ≤ 3) ⌝ }
+    ensures { λ r. ⌜ r ≡ cellsOf h ⌝ }
+{
+    slots(h) + level_start(h, h + 1)
+}
+
+pub fn array_length(h: usize) -> usize
+    requires { ⌜ (1 ≤ h) × (h ≤ 3) ⌝ }
+    ensures { λ r. ⌜ r ≡ arrayLength h ⌝ }
+{
+    72 * cells(h)
+}
+
+pub fn cache_length(h: usize) -> usize
+    requires { ⌜ (1 ≤ h) × (h ≤ 3) ⌝ }
+    ensures { λ r. ⌜ r ≡ cacheLength h ⌝ }
+{
+    73 * slots(h)
+}
+
+// The slot that node i of level l may take.
+pub fn slot_of(l: usize, i: usize) -> usize
+    requires { ⌜ l ≤ 3 ⌝ }
+    ensures { λ r. ⌜ r ≡ slotOf l i ⌝ }
+{
+    if l == 0 {
+        i % 4
+    } else {
+        4 + 2 * (l - 1) + i % 2
+    }
+}
+
+// The level whose nodes slot s may hold.
+pub fn level_of(s: usize) -> usize
+    ensures { λ r. ⌜ r ≡ levelOf s ⌝ }
+{
+    if s < 4 { 0 } else { (s - 4) / 2 + 1 }
+}
+
+// Whether an owner, an index + 1, is a node of the map that may take slot s.
+pub fn belongs(h: usize, s: usize, owner: usize) -> bool
+    requires { ⌜ (1 ≤ h) × ((h ≤ 3) × (s < slotsOf h)) ⌝ }
+    ensures { λ r. ⌜ r ≡ belongsTo h s owner ⌝ }
+{
+    if owner == 0 {
+        return false;
+    }
+    let l = level_of(s);
+    if nodes(h, l) <= owner - 1 {
+        return false;
+    }
+    slot_of(l, owner - 1) == s
+}

@@ -1,0 +1,4 @@
+pub mod Digits
+pub mod Order
+pub mod Parts
+pub mod Rotation
