@@ -2,10 +2,13 @@
 use mathlib.Core.Path.{_≡_, refl, sym, ap, ap₂, _∙_, subst}
 use mathlib.Core.List.{List, [], _∷_, _++_}
 use Prim.Native.Nat.{ℕ, zero, suc, _+_, _*_, _/_, _%_, _^_, _≤_, _<_}
-use native.Mathlib.Nat.{mod-one, pow-suc, pow-succ', add-comm, mul-comm, zero-add, mul-assoc, add-assoc, mul-add, div-div-eq-div-mul, mod-lt, not-suc-le-zero, le-of-suc-le-suc, zero-lt-suc, one-mul, div-one, zero-div, zero-mod, pow-zero, mul-pos, suc-add}
+use native.Mathlib.Nat.{mod-one, pow-suc, pow-succ', add-comm, mul-comm, zero-add, mul-assoc, add-assoc, mul-add, div-div-eq-div-mul, mod-lt, not-suc-le-zero, le-of-suc-le-suc, zero-lt-suc, one-mul, div-one, zero-div, zero-mod, pow-zero, mul-pos, suc-add, lt-of-lt-of-le, pow-le-pow-right, mod-eq-of-lt, mul-zero, mul-suc, mul-one}
+use native.Mathlib.Numerals.{add-one}
 use native.Mathlib.Omega.{arith}
 use lib.Arith.{digits-lt, digits-div, digits-mod, mod-mul}
+use lib.Pow.{pow-add}
 use lib.ListN.{length, take, drop, getD, set}
+use lib.Seq.{drop-cons}
 use Rattle.words.specs.Bytes.{number, digits}
 
 -- each of ds is a digit of base b
@@ -100,6 +103,10 @@ number-lt b (d ∷ ds) h =
     (subst (λ (m : ℕ). m < b ^ length ds * b) (add-comm (number b ds * b) d ∙ ap (λ (m : ℕ). d + m) (mul-comm (number b ds) b))
     (digits-lt (number-lt b ds (below-tail h)) (below-head h)))
 
+-- ds have at most n digits
+pub number-lt-pow : (b n : ℕ) (ds : List ℕ) → Below b ds → length ds ≤ n → number b ds < b ^ n
+number-lt-pow b n ds h hn = lt-of-lt-of-le (number-lt b ds h) (pow-le-pow-right (below-pos h) hn)
+
 pub digits-number : (b : ℕ) (ds : List ℕ) → Below b ds → digits b (length ds) (number b ds) ≡ ds
 unfolding number digits
 digits-number b [] h = refl
@@ -147,3 +154,40 @@ digits-append b (suc n) m x =
     ap (λ (k : ℕ). digits b k x) (suc-add n m)
     ∙ ap (λ (r : List ℕ). x % b ∷ r)
     (digits-append b n m (x / b) ∙ ap (λ (k : ℕ). digits b n (x / b) ++ digits b m k) (sym (shift b n x)))
+
+-- the digits from an index: the digit there, and those from the next
+pub number-from : (b : ℕ) (ds : List ℕ) (i : ℕ) → i < length ds
+    → number b (drop i ds) ≡ number b (drop (i + 1) ds) * b + getD ds i 0
+unfolding number
+number-from b ds i h =
+    ap (number b) (drop-cons ds i 0 h) ∙ add-comm (getD ds i 0) (b * number b (drop (suc i) ds))
+    ∙ ap (λ (m : ℕ). m + getD ds i 0) (mul-comm b (number b (drop (suc i) ds)) ∙ ap (λ (k : ℕ). number b (drop k ds) * b) (sym (add-one i)))
+
+-- n digits and a number below b ^ n, each from the other
+pub number-exact : (b n x : ℕ) → 0 < b → x < b ^ n → number b (digits b n x) ≡ x
+number-exact b n x hb hx = number-digits b n x hb ∙ mod-eq-of-lt hx
+
+pub digits-exact : (b n : ℕ) (ds : List ℕ) → length ds ≡ n → Below b ds → digits b n (number b ds) ≡ ds
+digits-exact b n ds hl hb = ap (λ (k : ℕ). digits b k (number b ds)) (sym hl) ∙ digits-number b ds hb
+
+pub number-lt-exact : (b n : ℕ) (ds : List ℕ) → length ds ≡ n → Below b ds → number b ds < b ^ n
+number-lt-exact b n ds hl hb = subst (λ (k : ℕ). number b ds < b ^ k) hl (number-lt b ds hb)
+
+pub pow-mul : (b m n : ℕ) → (b ^ m) ^ n ≡ b ^ (m * n)
+pow-mul b m zero = rw (mul-zero, pow-zero, pow-zero)
+pow-mul b m (suc n) =
+    pow-suc (b ^ m) n ∙ ap (λ (x : ℕ). x * b ^ m) (pow-mul b m n)
+    ∙ sym (pow-add b (m * n) m) ∙ ap (λ (k : ℕ). b ^ k) (sym (mul-suc m n))
+
+-- a list of digits is determined by its length and its number
+pub number-inj : {b : ℕ} {xs ys : List ℕ} → Below b xs → Below b ys → length xs ≡ length ys → number b xs ≡ number b ys → xs ≡ ys
+number-inj {b} {xs} {ys} hx hy hl hn =
+    sym (digits-number b xs hx) ∙ ap₂ {C = List ℕ} (digits b) hl hn ∙ digits-number b ys hy
+
+-- one digit replaced, with the old one added back
+pub number-set : (b : ℕ) (ds : List ℕ) (j v : ℕ) → j < length ds → number b (set ds j v) + getD ds j 0 * b ^ j ≡ number b ds + v * b ^ j
+unfolding number
+number-set b [] j v h = absurd (not-suc-le-zero h)
+number-set b (d ∷ ds) zero v h = simp (pow-zero, mul-one) (omega arith)
+number-set b (d ∷ ds) (suc j) v h =
+    rw pow-succ' (omega (arith, ap (λ (x : ℕ). b * x) (number-set b ds j v (le-of-suc-le-suc h))))

@@ -2,3 +2,4 @@ pub mod Digits
 pub mod Order
 pub mod Parts
 pub mod Rotation
+pub mod Words

@@ -1,15 +1,15 @@
 -- Laws of `part` and `put`. Assumes nothing.
-use mathlib.Core.Path.{_≡_, refl, sym, ap, _∙_, subst}
+use mathlib.Core.Path.{_≡_, refl, sym, ap, ap₂, _∙_, subst}
 use mathlib.Core.List.{List, [], _∷_, _++_, append-assoc}
 use Prim.Native.Nat.{ℕ, zero, suc, _+_, _-_, _*_, _/_, _%_, _^_, _≤_, _<_}
-use native.Mathlib.Nat.{mul-comm, add-zero, add-suc, suc-add}
+use native.Mathlib.Nat.{mul-comm, zero-add, add-zero, add-suc, suc-add}
 use native.Mathlib.Numerals.{towards-suc, add-one, add-two, add-three}
 use native.Mathlib.Omega.{arith}
-use lib.ListN.{length, take, drop, getD, set, length-take, length-drop, length-append}
+use lib.ListN.{length, take, drop, getD, set, length-take, length-drop, length-append, take-append-drop}
 use lib.Dec.{lit<}
-use lib.Seq.{drop-cons, take-add, drop-drop, sets, sets-eq, length-sets, length-take-le}
+use lib.Seq.{drop-cons, take-nil, take-add, take-take, drop-drop, sets, sets-eq, length-sets, length-take-le}
 use Rattle.words.specs.Bytes.{number, digits, fromLe, toLe, part, put}
-use Rattle.words.proofs.Digits.{number-append, digits-cut, digits-append}
+use Rattle.words.proofs.Digits.{Below, below-append, below-take, below-drop, number-append, number-take, number-drop, digits-cut, digits-append}
 
 pub length-part : (s : List ℕ) (at n : ℕ) → at + n ≤ length s → length (part s at n) ≡ n
 length-part s at n h = simp (length-take, length-drop) (omega arith)
@@ -19,6 +19,19 @@ part-suc s at n h = ap (take (suc n)) (drop-cons s at 0 h)
 
 pub part-add : (s : List ℕ) (at n m : ℕ) → part s at (n + m) ≡ part s at n ++ part s (at + n) m
 part-add s at n m = take-add n m (drop at s) ∙ ap (λ (l : List ℕ). part s at n ++ take m l) (drop-drop n at s)
+
+drop-take : (i n : ℕ) (s : List ℕ) → drop i (take (i + n) s) ≡ take n (drop i s)
+drop-take zero n s = rw zero-add
+drop-take (suc i) n [] = rw (suc-add, take-nil)
+drop-take (suc i) n (x ∷ s) = rw suc-add (drop-take i n s)
+
+-- a part of a part
+pub part-part : (s : List ℕ) (at n i m : ℕ) → i + m ≤ n → part (part s at n) i m ≡ part s (at + i) m
+part-part s at n i m h =
+    let whole : n ≡ i + (n - i) = omega arith in
+    ap (λ (k : ℕ). take m (drop i (take k (drop at s)))) whole
+    ∙ ap (take m) (drop-take i (n - i) (drop at s) ∙ ap (take (n - i)) (drop-drop i at s))
+    ∙ take-take m (n - i) (drop (at + i) s) (omega arith)
 
 -- stores of bs one after the other from index at
 pub put-sets : (s : List ℕ) (at : ℕ) (bs : List ℕ) → at + length bs ≤ length s → sets s at bs ≡ put s at bs
@@ -71,3 +84,35 @@ put8 s at x h =
     ap (λ (l : List ℕ). put (put s at l) (at + 4) (toLe 4 (x / 4294967296))) (digits-cut 256 4 x (lit< tt))
     ∙ put-append s at (toLe 4 x) (toLe 4 (x / 4294967296)) (omega arith)
     ∙ ap (put s at) (sym (digits-append 256 4 4 x))
+
+pub number-part : {b : ℕ} (s : List ℕ) (at n : ℕ) → Below b s → number b (part s at n) ≡ number b s / b ^ at % b ^ n
+number-part {b} s at n h =
+    number-take b n (drop at s) (below-drop at s h) ∙ ap (λ (x : ℕ). x % b ^ n) (number-drop b at s h)
+
+pub put-part : (s : List ℕ) (at n : ℕ) → at + n ≤ length s → put s at (part s at n) ≡ s
+put-part s at n h =
+    ap (λ (k : ℕ). take at s ++ (part s at n ++ drop (at + k) s)) (length-part s at n h)
+    ∙ ap (λ (l : List ℕ). take at s ++ (part s at n ++ l)) (sym (drop-drop n at s))
+    ∙ ap (λ (l : List ℕ). take at s ++ l) (take-append-drop n (drop at s))
+    ∙ take-append-drop at s
+
+pub below-put : {b : ℕ} (s : List ℕ) (at : ℕ) (bs : List ℕ) → Below b s → Below b bs → Below b (put s at bs)
+below-put s at bs hs hb =
+    below-append (take at s) (bs ++ drop (at + length bs) s) (below-take at s hs)
+    (below-append bs (drop (at + length bs) s) hb (below-drop (at + length bs) s hs))
+
+put-number : (b : ℕ) (s : List ℕ) (at : ℕ) (bs : List ℕ) (n : ℕ) → at ≤ length s → length bs ≡ n
+    → number b (put s at bs) ≡ number b (take at s) + b ^ at * (number b bs + b ^ n * number b (drop (at + n) s))
+put-number b s at bs n h hn =
+    number-append b (take at s) (bs ++ drop (at + length bs) s)
+    ∙ ap₂ (λ (k x : ℕ). number b (take at s) + b ^ k * x) (length-take-le at s h)
+    (number-append b bs (drop (at + length bs) s) ∙ ap (λ (k : ℕ). number b bs + b ^ k * number b (drop (at + k) s)) hn)
+
+-- n digits from index at replaced, with the old ones added back
+pub number-put : (b : ℕ) (s : List ℕ) (at : ℕ) (bs : List ℕ) (n : ℕ) → at + n ≤ length s → length bs ≡ n
+    → number b (put s at bs) + number b (part s at n) * b ^ at ≡ number b s + number b bs * b ^ at
+number-put b s at bs n h hn =
+    let l : at ≤ length s = omega arith in
+    let new = put-number b s at bs n l hn in
+    let old = ap (number b) (sym (put-part s at n h)) ∙ put-number b s at (part s at n) n l (length-part s at n h) in
+    omega arith

@@ -1,10 +1,10 @@
 -- A rotation by shifts, over the width. Assumes nothing.
 use mathlib.Core.Path.{_≡_, refl, sym, ap, ap₂, _∙_, subst}
 use Prim.Native.Nat.{ℕ, zero, suc, _+_, _-_, _*_, _/_, _%_, _^_, _≤_, _<_}
-use native.Mathlib.Nat.{mul-div-cancel, mul-mod-left, add-zero, add-comm, sub-add-cancel}
+use native.Mathlib.Nat.{mul-div-cancel, mul-mod-left, add-zero, add-comm, sub-add-cancel, mod-lt, lt-of-le-of-lt}
 use native.Mathlib.Omega.{arith}
 use lib.Arith.{mod-mul}
-use lib.Pow.{pow-pos, pow-add, shr-lt, shl-lt}
+use lib.Pow.{pow-pos, pow-add, shr-lt, shr-le}
 use lib.Bits.{bitOr, or-shifted, or-lt}
 use Rattle.words.specs.Rotate.{rotl}
 
@@ -27,3 +27,8 @@ unfolding rotl
 rotl-or w n x hn hx =
     subst (λ (m : ℕ). bitOr ((x * 2 ^ n) % 2 ^ m) (x / 2 ^ (w - n)) ≡ (x * 2 ^ n) % 2 ^ m + x / 2 ^ (w - n)) (sub-add-cancel hn)
     (disjoint (w - n) n x (subst (λ (m : ℕ). x < 2 ^ m) (sym (sub-add-cancel hn)) hx))
+
+pub rotl-lt : (w n x : ℕ) → n ≤ w → x < 2 ^ w → rotl w n x < 2 ^ w
+rotl-lt w n x hn hx =
+    subst (λ (m : ℕ). m < 2 ^ w) (rotl-or w n x hn hx)
+    (or-lt w _ _ (mod-lt (x * 2 ^ n) (pow-pos w)) (lt-of-le-of-lt (shr-le x (w - n)) hx))

@@ -1,0 +1,63 @@
+-- Laws of `wordsOf` and `bytesOf`, over the width of a word. Assumes nothing.
+use mathlib.Core.Path.{_≡_, refl, sym, ap, ap₂, _∙_}
+use mathlib.Core.List.{List, [], _∷_, _++_}
+use Prim.Native.Nat.{ℕ, zero, suc, _+_, _*_, _^_, _≤_, _<_}
+use native.Mathlib.Nat.{zero-add, zero-mul, suc-add, suc-mul, add-comm, mod-eq-of-lt, min-le-left}
+use native.Mathlib.Omega.{arith}
+use lib.ListN.{length, take, drop, length-append, length-take, length-drop}
+use lib.Dec.{lit<}
+use lib.Seq.{drop-drop, take-append-le, drop-append-le, take-at, drop-at}
+use Rattle.words.specs.Bytes.{fromLe, toLe, part, wordsOf, bytesOf}
+use Rattle.words.proofs.Digits.{Below, below-head, below-tail, below-nil, below-cons, below-append, below-drop, below-take, below-digits, pow-pos, length-digits, number-digits, number-lt-pow}
+
+-- n words, then m more
+pub words-add : (w n m : ℕ) (s : List ℕ) → wordsOf w (n + m) s ≡ wordsOf w n s ++ wordsOf w m (drop (n * w) s)
+unfolding wordsOf
+words-add w zero m s = rw (zero-add, zero-mul)
+words-add w (suc n) m s =
+    ap (λ (k : ℕ). wordsOf w k s) (suc-add n m)
+    ∙ ap (λ (r : List ℕ). fromLe (take w s) ∷ r)
+    (words-add w n m (drop w s)
+    ∙ ap (λ (l : List ℕ). wordsOf w n (drop w s) ++ wordsOf w m l)
+    (drop-drop (n * w) w s ∙ ap (λ (k : ℕ). drop k s) (add-comm w (n * w) ∙ sym (suc-mul n w))))
+
+-- the words of s do not see what follows s
+pub words-front : (w n : ℕ) (s t : List ℕ) → n * w ≤ length s → wordsOf w n (s ++ t) ≡ wordsOf w n s
+unfolding wordsOf
+words-front w zero s t h = refl
+words-front w (suc n) s t h =
+    let first : w ≤ length s = omega (arith, suc-mul n w) in
+    let rest : n * w ≤ length (drop w s) = rw length-drop (omega (arith, suc-mul n w)) in
+    ap₂ {C = List ℕ} (λ (a b : List ℕ). fromLe a ∷ wordsOf w n b) (take-append-le w s t first) (drop-append-le w s t first)
+    ∙ ap (λ (r : List ℕ). fromLe (take w s) ∷ r) (words-front w n (drop w s) t rest)
+
+pub length-bytes : (w : ℕ) (xs : List ℕ) → length (bytesOf w xs) ≡ length xs * w
+unfolding bytesOf
+length-bytes w [] = sym (zero-mul w)
+length-bytes w (x ∷ xs) =
+    length-append (toLe w x) (bytesOf w xs) ∙ ap₂ (λ (a b : ℕ). a + b) (length-digits 256 w x) (length-bytes w xs)
+    ∙ add-comm w (length xs * w) ∙ sym (suc-mul (length xs) w)
+
+pub words-bytes : (w : ℕ) (xs : List ℕ) → Below (256 ^ w) xs → wordsOf w (length xs) (bytesOf w xs) ≡ xs
+unfolding wordsOf bytesOf
+words-bytes w [] h = refl
+words-bytes w (x ∷ xs) h =
+    ap₂ {C = List ℕ} (λ (a b : List ℕ). fromLe a ∷ wordsOf w (length xs) b)
+    (take-at (toLe w x) (bytesOf w xs) w (length-digits 256 w x)) (drop-at (toLe w x) (bytesOf w xs) w (length-digits 256 w x))
+    ∙ ap₂ {C = List ℕ} (λ (y : ℕ) (r : List ℕ). y ∷ r) (number-digits 256 w x (lit< tt) ∙ mod-eq-of-lt (below-head h)) (words-bytes w xs (below-tail h))
+
+-- a word at an index, also one that reaches past the end
+pub part-lt : (w : ℕ) (s : List ℕ) (at : ℕ) → Below 256 s → fromLe (part s at w) < 256 ^ w
+part-lt w s at h =
+    number-lt-pow 256 w (part s at w) (below-take w (drop at s) (below-drop at s h)) (rw length-take (min-le-left w (length (drop at s))))
+
+pub below-words : (w n : ℕ) (s : List ℕ) → Below 256 s → Below (256 ^ w) (wordsOf w n s)
+unfolding wordsOf
+below-words w zero s h = below-nil (pow-pos 256 w (lit< tt))
+below-words w (suc n) s h =
+    below-cons (part-lt w s 0 h) (below-words w n (drop w s) (below-drop w s h))
+
+pub below-bytes : (w : ℕ) (xs : List ℕ) → Below 256 (bytesOf w xs)
+unfolding bytesOf
+below-bytes w [] = below-nil (lit< tt)
+below-bytes w (x ∷ xs) = below-append (toLe w x) (bytesOf w xs) (below-digits 256 w x (lit< tt)) (below-bytes w xs)
