@@ -20,7 +20,7 @@ part-suc s at n h = ap (take (suc n)) (drop-cons s at 0 h)
 pub part-add : (s : List ℕ) (at n m : ℕ) → part s at (n + m) ≡ part s at n ++ part s (at + n) m
 part-add s at n m = take-add n m (drop at s) ∙ ap (λ (l : List ℕ). part s at n ++ take m l) (drop-drop n at s)
 
-drop-take : (i n : ℕ) (s : List ℕ) → drop i (take (i + n) s) ≡ take n (drop i s)
+pub drop-take : (i n : ℕ) (s : List ℕ) → drop i (take (i + n) s) ≡ take n (drop i s)
 drop-take zero n s = rw zero-add
 drop-take (suc i) n [] = rw (suc-add, take-nil)
 drop-take (suc i) n (x ∷ s) = rw suc-add (drop-take i n s)
@@ -116,3 +116,23 @@ number-put b s at bs n h hn =
     let new = put-number b s at bs n l hn in
     let old = ap (number b) (sym (put-part s at n h)) ∙ put-number b s at (part s at n) n l (length-part s at n h) in
     omega arith
+
+pub put-nil : (s : List ℕ) (at : ℕ) → at ≤ length s → put s at [] ≡ s
+put-nil s at h = sym (put-sets s at [] (rw add-zero h))
+
+pub put-one : (s : List ℕ) (at y : ℕ) → at < length s → put s at (y ∷ []) ≡ set s at y
+put-one s at y h = sym (put-sets s at (y ∷ []) (omega arith))
+
+pub part-snoc : (s : List ℕ) (at n : ℕ) → at + n < length s → part s at (n + 1) ≡ part s at n ++ (getD s (at + n) 0 ∷ [])
+part-snoc s at n h = part-add s at n 1 ∙ ap (λ (l : List ℕ). part s at n ++ l) (part-suc s (at + n) 0 h)
+
+-- a byte copied after n others
+pub copy-next : (d : List ℕ) (to : ℕ) (s : List ℕ) (from n : ℕ) → to + n < length d → from + n < length s
+    → set (put d to (part s from n)) (to + n) (getD s (from + n) 0) ≡ put d to (part s from (n + 1))
+copy-next d to s from n hd hs =
+    let l : length (part s from n) ≡ n = length-part s from n (omega arith) in
+    let fits : to + length (part s from n) ≤ length d = rw l (omega arith) in
+    sym (put-one (put d to (part s from n)) (to + n) (getD s (from + n) 0) (rw (length-put d to (part s from n) fits) hd))
+    ∙ ap (λ (k : ℕ). put (put d to (part s from n)) (to + k) (getD s (from + n) 0 ∷ [])) (sym l)
+    ∙ put-append d to (part s from n) (getD s (from + n) 0 ∷ []) (rw l (omega arith))
+    ∙ ap (put d to) (sym (part-snoc s from n hs))

@@ -1,14 +1,15 @@
 -- Laws of `wordsOf` and `bytesOf`, over the width of a word. Assumes nothing.
 use mathlib.Core.Path.{_≡_, refl, sym, ap, ap₂, _∙_}
-use mathlib.Core.List.{List, [], _∷_, _++_}
-use Prim.Native.Nat.{ℕ, zero, suc, _+_, _*_, _^_, _≤_, _<_}
-use native.Mathlib.Nat.{zero-add, zero-mul, suc-add, suc-mul, add-comm, mod-eq-of-lt, min-le-left}
+use mathlib.Core.List.{List, [], _∷_, _++_, append-nil, append-assoc}
+use Prim.Native.Nat.{ℕ, zero, suc, _+_, _*_, _%_, _^_, _≤_, _<_}
+use native.Mathlib.Nat.{zero-add, zero-mul, suc-add, suc-mul, add-comm, mod-eq-of-lt, min-le-left, mul-suc, le-add-right}
 use native.Mathlib.Omega.{arith}
 use lib.ListN.{length, take, drop, length-append, length-take, length-drop}
 use lib.Dec.{lit<}
-use lib.Seq.{drop-drop, take-append-le, drop-append-le, take-at, drop-at}
-use Rattle.words.specs.Bytes.{fromLe, toLe, part, wordsOf, bytesOf}
+use lib.Seq.{take-take, drop-drop, take-append-le, drop-append-le, take-at, drop-at}
+use Rattle.words.specs.Bytes.{fromLe, toLe, part, put, wordsOf, bytesOf}
 use Rattle.words.proofs.Digits.{Below, below-head, below-tail, below-nil, below-cons, below-append, below-drop, below-take, below-digits, pow-pos, length-digits, number-digits, number-lt-pow}
+use Rattle.words.proofs.Parts.{drop-take, put-append}
 
 -- n words, then m more
 pub words-add : (w n m : ℕ) (s : List ℕ) → wordsOf w (n + m) s ≡ wordsOf w n s ++ wordsOf w m (drop (n * w) s)
@@ -61,3 +62,48 @@ pub below-bytes : (w : ℕ) (xs : List ℕ) → Below 256 (bytesOf w xs)
 unfolding bytesOf
 below-bytes w [] = below-nil (lit< tt)
 below-bytes w (x ∷ xs) = below-append (toLe w x) (bytesOf w xs) (below-digits 256 w x (lit< tt)) (below-bytes w xs)
+
+pub length-words : (w n : ℕ) (bs : List ℕ) → length (wordsOf w n bs) ≡ n
+unfolding wordsOf
+length-words w zero bs = refl
+length-words w (suc n) bs = ap suc (length-words w n (drop w bs))
+
+-- no byte past the last word counts
+pub words-take : (w n : ℕ) (bs : List ℕ) → wordsOf w n (take (w * n) bs) ≡ wordsOf w n bs
+unfolding wordsOf
+words-take w zero bs = refl
+words-take w (suc n) bs =
+    let whole : w * suc n ≡ w + w * n = mul-suc w n ∙ add-comm (w * n) w in
+    ap₂ {C = List ℕ} (λ (h t : List ℕ). fromLe h ∷ wordsOf w n t)
+    (take-take w (w * suc n) bs (rw whole (le-add-right w (w * n))))
+    (ap (λ (k : ℕ). drop w (take k bs)) whole ∙ drop-take w (w * n) bs)
+    ∙ ap (λ (t : List ℕ). fromLe (take w bs) ∷ t) (words-take w n (drop w bs))
+
+-- the word that bytes begin with
+pub words-toLe : (w n x : ℕ) (bs : List ℕ) → wordsOf w (suc n) (toLe w x ++ bs) ≡ x % 256 ^ w ∷ wordsOf w n bs
+unfolding wordsOf
+words-toLe w n x bs =
+    ap₂ {C = List ℕ} (λ (h t : List ℕ). fromLe h ∷ wordsOf w n t)
+    (take-at (toLe w x) bs w (length-digits 256 w x))
+    (drop-at (toLe w x) bs w (length-digits 256 w x))
+    ∙ ap (λ (k : ℕ). k ∷ wordsOf w n bs) (number-digits 256 w x (lit< tt))
+
+pub bytes-append : (w : ℕ) (xs ys : List ℕ) → bytesOf w (xs ++ ys) ≡ bytesOf w xs ++ bytesOf w ys
+unfolding bytesOf
+bytes-append w [] ys = refl
+bytes-append w (x ∷ xs) ys =
+    ap (λ (t : List ℕ). toLe w x ++ t) (bytes-append w xs ys) ∙ sym (append-assoc (toLe w x) (bytesOf w xs) (bytesOf w ys))
+
+pub bytes-one : (w x : ℕ) → toLe w x ≡ bytesOf w (x ∷ [])
+unfolding bytesOf
+bytes-one w x = sym (append-nil (toLe w x))
+
+-- one more word stored behind others
+pub put-word : (w : ℕ) (s : List ℕ) (at : ℕ) (xs : List ℕ) (x : ℕ) → at + length xs * w + w ≤ length s
+    → put (put s at (bytesOf w xs)) (at + length xs * w) (toLe w x) ≡ put s at (bytesOf w (xs ++ (x ∷ [])))
+put-word w s at xs x h =
+    let size = length-bytes w xs in
+    let one = length-digits 256 w x in
+    ap (λ (k : ℕ). put (put s at (bytesOf w xs)) (at + k) (toLe w x)) (sym size)
+    ∙ put-append s at (bytesOf w xs) (toLe w x) (omega arith)
+    ∙ ap (put s at) (ap (λ (t : List ℕ). bytesOf w xs ++ t) (bytes-one w x) ∙ sym (bytes-append w xs (x ∷ [])))

@@ -52,6 +52,18 @@ pub fn store64(s: &mut [u8], at: usize, x: u64)
     store32(s, at + 4, (x / 0x1_0000_0000) as u32);
 }
 
+// Copies n bytes of src from an index to dst at an index.
+pub fn copy(dst: &mut [u8], to: usize, src: &[u8], from: usize, n: usize)
+    requires { ⌜ (to + n ≤ length (now dst)) × (from + n ≤ length (now src)) ⌝ }
+    ensures { λ _. ⌜ now (dst .exit) ≡ put (now (dst .entry)) to (part (now (src .entry)) from n) ⌝ }
+{
+    let mut i = 0;
+    while i < n {
+        dst[to + i] = src[from + i];
+        i += 1;
+    }
+}
+
 // x rotated left by n, which is from 1 to 31.
 pub fn rotate32(x: u32, n: u32) -> u32
     requires { ⌜ (0 < n) × (n < 32) ⌝ }

@@ -1,0 +1,37 @@
+-- `block` gives the RFC's block: the nonce is its three words. Assumes nothing.
+use mathlib.Core.Path.{_∙_, ap}
+use mathlib.Core.List.{List, [], _∷_, _++_}
+use Prim.Native.Nat.{ℕ}
+use borrow.Author.Needs.{needs}
+use Rattle.words.specs.Bytes.{wordsOf}
+use Rattle.chacha20.specs.ChaCha20.{constants, start, serialised, block}
+use Rattle.chacha20.proofs.Rows.{three-at}
+use Rattle.chacha20.proofs.block.Statement.{statement}
+use Rattle.chacha20.proofs.block.Tie as tie
+
+load32-requires : tie.Need-load32-requires
+load32-requires c κs = search needs
+
+load32-requires-2 : tie.Need-load32-requires-2
+load32-requires-2 c κs = search needs
+
+load32-requires-3 : tie.Need-load32-requires-3
+load32-requires-3 c κs = search needs
+
+key-stream-requires : tie.Need-key-stream-requires
+key-stream-requires c κs = search needs
+
+returns : tie.Need-returns
+unfolding start block
+returns c =
+    let start = c .before .before .before .before .before .before in
+    let words =
+    (λ i. c .before .before .before .load32 .ensures i ∷ c .before .before .load322 .ensures i ∷ c .before .load323 .ensures i ∷ [])
+    ∙ three-at (start .args .nonce .now) in
+    c .key-stream .ensures
+    ∙ ap (λ (l : List ℕ). serialised (constants ++ (wordsOf 4 8 (start .args .key .now) ++ (start .args .counter ∷ l)))) words
+
+pub block-spec : {M : Type 1} → statement M
+block-spec =
+    tie.close
+    (tie.spec load32-requires load32-requires-2 load32-requires-3 key-stream-requires returns)

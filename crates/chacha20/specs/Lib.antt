@@ -1,0 +1,2 @@
+pub mod ChaCha20
+pub mod Rows

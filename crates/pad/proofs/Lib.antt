@@ -1,0 +1,2 @@
+pub mod Nonce
+pub mod Xor
