@@ -1,0 +1,903 @@
+"""Reference model of the encrypted memory module and its recovery.
+
+Each call is a pure function: it takes immutable bytes and gives new ones.
+Lines, depths and allowances are unsigned 64-bit numbers.
+"""
+
+import re
+from collections import namedtuple
+from functools import lru_cache
+
+# kind: 'done', 'blank', 'cut' or 'refused'; number: the refusal, else 0.
+# first: the sum of a done recovery, or the first place number of a refusal.
+Answer = namedtuple("Answer", "kind number stores first second")
+Module = namedtuple("Module", "array control cache")
+
+# One atomic store: target is 'array' or 'control'.
+Store = namedtuple("Store", "target offset data")
+Slot = namedtuple("Slot", "owner dirty content")
+
+UNLIMITED = 2**64 - 1
+MASK32 = 2**32 - 1
+MASK64 = 2**64 - 1
+
+CONTENT = 64
+SIDE = 8
+CELL = CONTENT + SIDE
+KEYS_LENGTH = 48
+SLOT_LENGTH = 73
+COUNTER_SLOTS = 4
+LIST_LENGTH = 32
+
+# The control record.
+CONTROL_LENGTH = 664
+MARK = b"PIGK"
+DEPTH_AT = 5
+ROOT_AT = 7
+COUNT_AT = 15
+NEW_ROOT_AT = 16
+QUEUE_AT = 24
+QUEUE_PLACES = 8
+PLACE = 8 + CELL
+
+MINOR_MAX = 127
+STOP_LOSS = 4
+
+
+def number8(value):
+    return value.to_bytes(8, "little")
+
+
+def number_at(data, offset, length=8):
+    return int.from_bytes(data[offset:offset + length], "little")
+
+
+# ---- ChaCha20 block function (RFC 8439, 2.1 to 2.3) ----
+
+def rotate32(word, by):
+    return ((word << by) | (word >> (32 - by))) & MASK32
+
+
+def quarter_round(a, b, c, d):
+    a = (a + b) & MASK32
+    d = rotate32(d ^ a, 16)
+    c = (c + d) & MASK32
+    b = rotate32(b ^ c, 12)
+    a = (a + b) & MASK32
+    d = rotate32(d ^ a, 8)
+    c = (c + d) & MASK32
+    b = rotate32(b ^ c, 7)
+    return a, b, c, d
+
+
+COLUMNS = ((0, 4, 8, 12), (1, 5, 9, 13), (2, 6, 10, 14), (3, 7, 11, 15))
+DIAGONALS = ((0, 5, 10, 15), (1, 6, 11, 12), (2, 7, 8, 13), (3, 4, 9, 14))
+
+
+@lru_cache(maxsize=1 << 14)
+def chacha20_block(key, counter, nonce):
+    start = b"expand 32-byte k" + key + counter.to_bytes(4, "little") + nonce
+    initial = [number_at(start, 4 * i, 4) for i in range(16)]
+    state = list(initial)
+    for _ in range(10):
+        for a, b, c, d in COLUMNS + DIAGONALS:
+            state[a], state[b], state[c], state[d] = quarter_round(
+                state[a], state[b], state[c], state[d])
+    return b"".join(((x + y) & MASK32).to_bytes(4, "little")
+                    for x, y in zip(state, initial))
+
+
+# ---- SipHash-2-4 ----
+
+def rotate64(word, by):
+    return ((word << by) | (word >> (64 - by))) & MASK64
+
+
+def sip_round(v0, v1, v2, v3):
+    v0 = (v0 + v1) & MASK64
+    v2 = (v2 + v3) & MASK64
+    v1 = rotate64(v1, 13) ^ v0
+    v3 = rotate64(v3, 16) ^ v2
+    v0 = rotate64(v0, 32)
+    v2 = (v2 + v1) & MASK64
+    v0 = (v0 + v3) & MASK64
+    v1 = rotate64(v1, 17) ^ v2
+    v3 = rotate64(v3, 21) ^ v0
+    v2 = rotate64(v2, 32)
+    return v0, v1, v2, v3
+
+
+@lru_cache(maxsize=1 << 16)
+def siphash_2_4(key, message):
+    k0 = number_at(key, 0)
+    k1 = number_at(key, 8)
+    v0 = k0 ^ 0x736F6D6570736575
+    v1 = k1 ^ 0x646F72616E646F6D
+    v2 = k0 ^ 0x6C7967656E657261
+    v3 = k1 ^ 0x7465646279746573
+    padded = (message + bytes(7 - len(message) % 8)
+              + bytes([len(message) % 256]))
+    for offset in range(0, len(padded), 8):
+        word = number_at(padded, offset)
+        v3 ^= word
+        v0, v1, v2, v3 = sip_round(v0, v1, v2, v3)
+        v0, v1, v2, v3 = sip_round(v0, v1, v2, v3)
+        v0 ^= word
+    v2 ^= 0xFF
+    for _ in range(4):
+        v0, v1, v2, v3 = sip_round(v0, v1, v2, v3)
+    return v0 ^ v1 ^ v2 ^ v3
+
+
+# ---- Layout ----
+
+def pages(h):
+    return 8**h
+
+
+def lines(h):
+    return 64 * pages(h)
+
+
+def nodes(h, level):
+    """How many nodes a level has; level 0 is the counter blocks."""
+    return 8**(h - level)
+
+
+def node_cell(h, level, index):
+    return lines(h) + sum(nodes(h, below) for below in range(level)) + index
+
+
+def slots(h):
+    return COUNTER_SLOTS + 2 * h
+
+
+def shadow_cell(h, slot):
+    return node_cell(h, h, 0) + 1 + slot
+
+
+def cells(h):
+    return shadow_cell(h, slots(h))
+
+
+def array_length(h):
+    return CELL * cells(h)
+
+
+def cache_length(h):
+    return SLOT_LENGTH * slots(h)
+
+
+def slot_of(level, index):
+    if level == 0:
+        return index % COUNTER_SLOTS
+    return COUNTER_SLOTS + 2 * (level - 1) + index % 2
+
+
+def level_of_slot(slot):
+    if slot < COUNTER_SLOTS:
+        return 0
+    return (slot - COUNTER_SLOTS) // 2 + 1
+
+
+def cell_at(array, cell):
+    return array[CELL * cell:CELL * (cell + 1)]
+
+
+def array_node(h, array, level, index):
+    return cell_at(array, node_cell(h, level, index))[:CONTENT]
+
+
+# ---- Counter blocks, pads and tags ----
+
+def major_of(block):
+    return number_at(block, 0)
+
+
+@lru_cache(maxsize=1 << 14)
+def minors_of(block):
+    packed = number_at(block, 8, 56)
+    return tuple((packed >> (7 * j)) & 127 for j in range(64))
+
+
+def counter_block(major, minors):
+    packed = 0
+    for j, minor in enumerate(minors):
+        packed |= minor << (7 * j)
+    return number8(major) + packed.to_bytes(56, "little")
+
+
+def pad(keys, line, major, minor):
+    nonce = minor.to_bytes(4, "little") + number8(major)
+    return chacha20_block(keys[:32], line, nonce)
+
+
+def xor(left, right):
+    return bytes(a ^ b for a, b in zip(left, right))
+
+
+def node_tag(keys, content, level, index):
+    message = content + number8(level) + number8(index)
+    return number8(siphash_2_4(keys[32:48], message))
+
+
+def data_side(keys, content, line, major, minor):
+    """The side bytes of a written data cell: phase, then data tag."""
+    message = content + number8(line) + number8(major) + number8(minor)
+    tag = number8(siphash_2_4(keys[32:48], message))[:7]
+    return bytes([minor % 4]) + tag
+
+
+def node_over(keys, child_level, first_index, children):
+    """A tree node's content from the contents of its eight children."""
+    return b"".join(node_tag(keys, child, child_level, first_index + i)
+                    for i, child in enumerate(children))
+
+
+def brought_forward(minor, phase):
+    """The minor that a stored minor and a phase stand for, or None if the
+    phase or that minor is out of range."""
+    if phase > 3:
+        return None
+    forward = minor + (phase - minor) % 4
+    return forward if forward <= MINOR_MAX else None
+
+
+# ---- Cache ----
+
+def slots_of_cache(cache):
+    found = []
+    for offset in range(0, len(cache), SLOT_LENGTH):
+        found.append(Slot(number_at(cache, offset), cache[offset + 8],
+                          cache[offset + 9:offset + SLOT_LENGTH]))
+    return found
+
+
+def cache_of_slots(found):
+    return b"".join(number8(s.owner) + bytes([s.dirty]) + s.content
+                    for s in found)
+
+
+EMPTY_SLOT = Slot(0, 0, bytes(CONTENT))
+
+
+def owners_fault(h, owners):
+    """The slot at which a row of owners is not formed, or None."""
+    for slot, owner in enumerate(owners):
+        if owner:
+            level = level_of_slot(slot)
+            index = owner - 1
+            if index >= nodes(h, level) or slot_of(level, index) != slot:
+                return slot
+    top = slot_of(h, 0)
+    if any(owners) and not owners[top]:
+        return top
+    return None
+
+
+def cache_formed(h, found):
+    for slot in found:
+        if slot.dirty > 1 or (slot.owner == 0 and slot.dirty):
+            return False
+    return owners_fault(h, [slot.owner for slot in found]) is None
+
+
+# ---- Stores ----
+
+def store_cell(cell, data):
+    return Store("array", CELL * cell, data)
+
+
+def store_root(root):
+    return Store("control", ROOT_AT, root)
+
+
+def store_count_zero():
+    return Store("control", COUNT_AT, b"\x00")
+
+
+def stores_of_batch(batch, new_root):
+    """The stores of a batch, a list of (cell number, cell), in order."""
+    if not batch:
+        return []
+    made = [Store("control", QUEUE_AT + PLACE * j, number8(cell) + data)
+            for j, (cell, data) in enumerate(batch)]
+    made.append(Store("control", COUNT_AT, bytes([len(batch)]) + new_root))
+    made += [store_cell(cell, data) for cell, data in batch]
+    made += [store_root(new_root), store_count_zero()]
+    return made
+
+
+def queue_of(control):
+    queue = []
+    for j in range(control[COUNT_AT]):
+        place = control[QUEUE_AT + PLACE * j:QUEUE_AT + PLACE * (j + 1)]
+        queue.append((number_at(place, 0), place[8:]))
+    return queue
+
+
+def stores_of_pending(control):
+    """The stores with which recovery completes a pending batch."""
+    queue = queue_of(control)
+    if not queue:
+        return []
+    made = [store_cell(cell, data) for cell, data in queue]
+    made += [store_root(control[NEW_ROOT_AT:NEW_ROOT_AT + 8]),
+             store_count_zero()]
+    return made
+
+
+def apply_stores(stores, array, control):
+    memory = {"array": bytearray(array), "control": bytearray(control)}
+    for target, offset, data in stores:
+        memory[target][offset:offset + len(data)] = data
+    return bytes(memory["array"]), bytes(memory["control"])
+
+
+# ---- Answers and the checks that several calls share ----
+
+def done(stores=0, first=0):
+    return Answer("done", 0, stores, first, 0)
+
+
+def blank(stores):
+    return Answer("blank", 0, stores, 0, 0)
+
+
+def cut(stores):
+    return Answer("cut", 0, stores, 0, 0)
+
+
+def refused(number, first=0, second=0, stores=0):
+    return Answer("refused", number, stores, first, second)
+
+
+def depth_of(control):
+    return control[DEPTH_AT]
+
+
+def root_of(control):
+    return control[ROOT_AT:ROOT_AT + 8]
+
+
+def control_valid(control):
+    if control[:4] != MARK or control[4] != 1 or control[6] != 1:
+        return False
+    if depth_of(control) not in (1, 2, 3) or control[COUNT_AT] > QUEUE_PLACES:
+        return False
+    return all(cell < cells(depth_of(control))
+               for cell, _ in queue_of(control))
+
+
+def opening_refusal(keys, module):
+    """The checks with which read, write and recovery start, or None."""
+    if len(keys) != KEYS_LENGTH:
+        return refused(2)
+    if len(module.control) != CONTROL_LENGTH:
+        return refused(3)
+    if not control_valid(module.control):
+        return refused(21)
+    if len(module.array) != array_length(depth_of(module.control)):
+        return refused(4)
+    if len(module.cache) != cache_length(depth_of(module.control)):
+        return refused(5)
+    return None
+
+
+def line_refusal(keys, line, buffer, module):
+    """All checks of read and write that come before the path is loaded."""
+    refusal = opening_refusal(keys, module)
+    if refusal is not None:
+        return refusal
+    h = depth_of(module.control)
+    if len(buffer) != CONTENT:
+        return refused(7)
+    if not 0 <= line < lines(h):
+        return refused(6)
+    if module.control[COUNT_AT] != 0:
+        return refused(22)
+    if not cache_formed(h, slots_of_cache(module.cache)):
+        return refused(23)
+    return None
+
+
+def load_path(keys, page, module):
+    """Bring the path of a page into the slots, top first.
+
+    Gives (refusal or None, slots, batch).
+    """
+    h = depth_of(module.control)
+    found = slots_of_cache(module.cache)
+    batch = []
+    expected = root_of(module.control)
+    for level in range(h, -1, -1):
+        index = page // 8**level
+        slot = slot_of(level, index)
+        former = found[slot]
+        if former.owner != index + 1:
+            content = array_node(h, module.array, level, index)
+            if node_tag(keys, content, level, index) != expected:
+                return refused(24, level, index), None, None
+            if former.dirty:
+                batch.append((node_cell(h, level, former.owner - 1),
+                              former.content + bytes(SIDE)))
+            batch.append((shadow_cell(h, slot),
+                          number8(index + 1) + bytes(CELL - 8)))
+            found[slot] = Slot(index + 1, 0, content)
+        if level > 0:
+            child = page // 8**(level - 1) % 8
+            expected = found[slot].content[8 * child:8 * child + 8]
+    return None, found, batch
+
+
+def make_stores(stores, allowance, module, cache):
+    """Make as many of the stores as the allowance lets.
+
+    Gives (the cut answer or None, the module); the given cache is taken on
+    only if all stores were made.
+    """
+    array, control = apply_stores(stores[:allowance], module.array,
+                                  module.control)
+    if allowance < len(stores):
+        return cut(allowance), Module(array, control, module.cache)
+    return None, Module(array, control, cache)
+
+
+# ---- The calls ----
+
+def format_call(keys, depth, module):
+    if depth not in (1, 2, 3):
+        return refused(1), module
+    if len(keys) != KEYS_LENGTH:
+        return refused(2), module
+    if len(module.control) != CONTROL_LENGTH:
+        return refused(3), module
+    if len(module.array) != array_length(depth):
+        return refused(4), module
+    if len(module.cache) != cache_length(depth):
+        return refused(5), module
+    array = bytearray(array_length(depth))
+    tree = tree_over(keys, depth, [bytes(CONTENT)] * pages(depth))
+    for level, contents in enumerate(tree):
+        for index, content in enumerate(contents):
+            offset = CELL * node_cell(depth, level, index)
+            array[offset:offset + CONTENT] = content
+    root = node_tag(keys, tree[depth][0], depth, 0)
+    control = MARK + bytes([1, depth, 1]) + root
+    control += bytes(CONTROL_LENGTH - len(control))
+    return done(), Module(bytes(array), control, bytes(cache_length(depth)))
+
+
+def tree_over(keys, h, blocks):
+    """The contents of all levels over the given counter blocks."""
+    tree = [list(blocks)]
+    for level in range(1, h + 1):
+        below = tree[level - 1]
+        tree.append([node_over(keys, level - 1, 8 * i, below[8 * i:8 * i + 8])
+                     for i in range(nodes(h, level))])
+    return tree
+
+
+def read_call(keys, line, allowance, output, module):
+    refusal = line_refusal(keys, line, output, module)
+    if refusal is not None:
+        return refusal, module, output
+    page, place = divmod(line, 64)
+    refusal, found, batch = load_path(keys, page, module)
+    if refusal is not None:
+        return refusal, module, output
+    block = found[slot_of(0, page)].content
+    major, minor = major_of(block), minors_of(block)[place]
+    text = bytes(CONTENT)
+    if minor != 0:
+        cell = cell_at(module.array, line)
+        content, side = cell[:CONTENT], cell[CONTENT:]
+        if side != data_side(keys, content, line, major, minor):
+            return refused(25, line), module, output
+        text = xor(content, pad(keys, line, major, minor))
+    stores = stores_of_batch(batch, root_of(module.control))
+    ended, module = make_stores(stores, allowance, module,
+                                cache_of_slots(found))
+    if ended is not None:
+        return ended, module, output
+    answer = done(len(stores)) if minor != 0 else blank(len(stores))
+    return answer, module, text
+
+
+def write_call(keys, line, text, allowance, module):
+    refusal = line_refusal(keys, line, text, module)
+    if refusal is not None:
+        return refusal, module
+    h = depth_of(module.control)
+    page, place = divmod(line, 64)
+    refusal, found, batch = load_path(keys, page, module)
+    if refusal is not None:
+        return refusal, module
+    block = found[slot_of(0, page)].content
+    major, minors = major_of(block), list(minors_of(block))
+    if minors[place] == MINOR_MAX:
+        return refused(26), module
+    minors[place] += 1
+    minor = minors[place]
+    content = counter_block(major, minors)
+    found[slot_of(0, page)] = Slot(page + 1, 1, content)
+    tag = node_tag(keys, content, 0, page)
+    for level in range(1, h + 1):
+        index = page // 8**level
+        child = page // 8**(level - 1) % 8
+        slot = slot_of(level, index)
+        node = found[slot].content
+        node = node[:8 * child] + tag + node[8 * child + 8:]
+        found[slot] = Slot(index + 1, 1, node)
+        tag = node_tag(keys, node, level, index)
+    if minor % STOP_LOSS == 0:
+        batch.append((node_cell(h, 0, page), content + bytes(SIDE)))
+        found[slot_of(0, page)] = Slot(page + 1, 0, content)
+    sealed = xor(text, pad(keys, line, major, minor))
+    batch.append((line, sealed + data_side(keys, sealed, line, major, minor)))
+    stores = stores_of_batch(batch, tag)
+    ended, module = make_stores(stores, allowance, module,
+                                cache_of_slots(found))
+    if ended is not None:
+        return ended, module
+    return done(len(stores)), module
+
+
+def recover_call(keys, allowance, module):
+    refusal = opening_refusal(keys, module)
+    if refusal is not None:
+        return refusal, module
+    h = depth_of(module.control)
+    stores = stores_of_pending(module.control)
+    ended, module = make_stores(stores, allowance, module, module.cache)
+    if ended is not None:
+        return ended, module
+
+    owners = [number_at(cell_at(module.array, shadow_cell(h, slot)), 0)
+              for slot in range(slots(h))]
+    fault = owners_fault(h, owners)
+    if fault is not None:
+        return refused(27, fault, stores=len(stores)), module
+
+    found = [EMPTY_SLOT] * slots(h)
+    total = 0
+    for slot in range(COUNTER_SLOTS):
+        if owners[slot] == 0:
+            continue
+        page = owners[slot] - 1
+        block = array_node(h, module.array, 0, page)
+        minors = list(minors_of(block))
+        for place in range(64):
+            phase = cell_at(module.array, 64 * page + place)[CONTENT]
+            forward = brought_forward(minors[place], phase)
+            if forward is None:
+                return refused(28, stores=len(stores)), module
+            total += forward - minors[place]
+            minors[place] = forward
+        found[slot] = Slot(page + 1, 1, counter_block(major_of(block), minors))
+
+    for slot in range(COUNTER_SLOTS, slots(h)):
+        if owners[slot] == 0:
+            continue
+        level, index = level_of_slot(slot), owners[slot] - 1
+        children = [node_of(h, module.array, found, level - 1, 8 * index + i)
+                    for i in range(8)]
+        node = node_over(keys, level - 1, 8 * index, children)
+        found[slot] = Slot(index + 1, 1, node)
+
+    top = node_of(h, module.array, found, h, 0)
+    if node_tag(keys, top, h, 0) != root_of(module.control):
+        return refused(29, stores=len(stores)), module
+    return (done(len(stores), total),
+            module._replace(cache=cache_of_slots(found)))
+
+
+def node_of(h, array, found, level, index):
+    """A block's or node's content: its slot's if cached, else the array's."""
+    slot = found[slot_of(level, index)]
+    if slot.owner == index + 1:
+        return slot.content
+    return array_node(h, array, level, index)
+
+
+def dirty_list_call(output, control, cache):
+    if len(control) != CONTROL_LENGTH:
+        return refused(3), output
+    if not control_valid(control):
+        return refused(21), output
+    if len(cache) != cache_length(depth_of(control)):
+        return refused(5), output
+    if len(output) != LIST_LENGTH:
+        return refused(7), output
+    found = slots_of_cache(cache)
+    if not cache_formed(depth_of(control), found):
+        return refused(23), output
+    listed = b"".join(number8(slot.owner - 1)
+                      for slot in found[:COUNTER_SLOTS] if slot.dirty)
+    return done(), listed.ljust(LIST_LENGTH, b"\xff")
+
+
+CODES = {"done": 0, "blank": 1, "cut": 2}
+
+
+def for_c(buffer, answer):
+    """Return code and number buffer as the C side gets them.
+
+    With a buffer of another length the call itself is not made, so the
+    caller must then drop whatever the call would have changed.
+    """
+    if len(buffer) != 24:
+        return 107, buffer
+    if answer.kind == "refused":
+        code = 100 + answer.number
+    else:
+        code = CODES[answer.kind]
+    return code, (number8(answer.stores) + number8(answer.first)
+                  + number8(answer.second))
+
+
+# ---- Bench program ----
+
+def parse_number(text, limit):
+    """A decimal number below the limit, or None."""
+    if not re.fullmatch("[0-9]+", text):
+        return None
+    digits = text.lstrip("0") or "0"
+    if len(digits) > 20 or int(digits) >= limit:
+        return None
+    return int(digits)
+
+
+FORMS = {"w": (2**64, 256), "r": (2**64,), "p": (), "k": (2**64,)}
+
+
+def parse_command(text):
+    """(command, numbers), or None if the line is not a command."""
+    command, *parts = text.split(" ")
+    limits = FORMS.get(command)
+    if limits is None or len(parts) != len(limits):
+        return None
+    numbers = [parse_number(part, limit)
+               for part, limit in zip(parts, limits)]
+    return None if None in numbers else (command, numbers)
+
+
+def zero_module(h):
+    return Module(bytes(array_length(h)), bytes(CONTROL_LENGTH),
+                  bytes(cache_length(h)))
+
+
+def bench(lines_of_text):
+    keys = bytes(range(KEYS_LENGTH))
+    _, module = format_call(keys, 1, zero_module(1))
+    allowance = UNLIMITED
+    printed = []
+    for text in lines_of_text:
+        parsed = parse_command(text[:-1] if text.endswith("\n") else text)
+        if parsed is None:
+            printed.append("?")
+            continue
+        command, numbers = parsed
+        if command == "k":
+            allowance = numbers[0]
+            continue
+        words = [command]
+        extra = []
+        if command == "w":
+            line, byte = numbers
+            words.append(str(line))
+            answer, module = write_call(keys, line, bytes([byte]) * CONTENT,
+                                        allowance, module)
+        elif command == "r":
+            line = numbers[0]
+            words.append(str(line))
+            answer, module, output = read_call(keys, line, allowance,
+                                               bytes(CONTENT), module)
+            if answer.kind in ("done", "blank"):
+                extra = [str(output[0])]
+        else:
+            answer, module = recover_call(keys, allowance, module)
+            if answer.kind == "done":
+                extra = [str(answer.first)]
+        allowance = UNLIMITED
+        if answer.kind == "cut":
+            module = module._replace(cache=bytes(len(module.cache)))
+        if answer.kind == "refused":
+            words += ["refused", str(answer.number)]
+        else:
+            words += [answer.kind, str(answer.stores)] + extra
+        printed.append(" ".join(words))
+    return printed
+
+
+# ---- History checker ----
+
+def claim(holds, what):
+    if not holds:
+        raise AssertionError(what)
+
+
+def allow(holds, what):
+    if not holds:
+        raise ValueError(what)
+
+
+def is_number64(value):
+    return isinstance(value, int) and 0 <= value <= MASK64
+
+
+class History:
+    """A list of events run from a done format, with its book.
+
+    An event that the list may not hold raises ValueError and changes
+    nothing; a clause that fails raises AssertionError.
+    """
+
+    # How many parts follow each event's name.
+    SHAPES = {"read": 4, "write": 4, "recover": 2, "list": 1, "format": 2,
+              "power_cut": 1}
+
+    def __init__(self, keys, depth):
+        allow(depth in (1, 2, 3), "depth")
+        answer, self.module = format_call(keys, depth, zero_module(depth))
+        allow(answer.kind == "done", "format not done")
+        self.keys = keys
+        self.depth = depth
+        self.counts = {}
+        self.texts = {}
+        self.committed = 0
+        self.answers = []
+        self.after_cut = False
+
+    def copy(self):
+        other = object.__new__(History)
+        other.__dict__.update(self.__dict__)
+        other.counts = dict(self.counts)
+        other.texts = dict(self.texts)
+        other.answers = list(self.answers)
+        return other
+
+    def step(self, event):
+        """Run one event; gives (answer or None, output or None)."""
+        kind, *rest = event
+        allow(kind in self.SHAPES and len(rest) == self.SHAPES[kind],
+              "unknown event")
+        if kind == "power_cut":
+            return self.power_cut(*rest)
+        allow(kind == "recover" or not self.after_cut,
+              "a cut not yet recovered from")
+        answer, module, output = getattr(self, "run_" + kind)(*rest)
+        if kind == "format":
+            allow(answer.kind == "refused", "a format that is not refused")
+        same_keys = kind == "list" or rest[0] == self.keys
+        if not same_keys:
+            allow(answer.kind == "refused" and answer.stores == 0,
+                  "other keys in a call that is not refused without stores")
+        if kind == "recover" and same_keys:
+            claim(answer.kind != "refused", "recovery refused")
+        if kind == "write":
+            self.note_write(answer, *rest)
+        self.module = module
+        self.answers.append(answer)
+        if answer.kind == "cut":
+            self.after_cut = True
+        if kind == "recover" and answer.kind == "done":
+            self.after_cut = False
+            self.check_recovered(answer.first)
+        return answer, output
+
+    def power_cut(self, cache):
+        allow(len(cache) == cache_length(self.depth), "cache length")
+        self.module = self.module._replace(cache=cache)
+        self.after_cut = True
+        self.answers.append(None)
+        return None, None
+
+    def run_read(self, keys, line, allowance, output):
+        allow(is_number64(line) and is_number64(allowance), "number")
+        return read_call(keys, line, allowance, output, self.module)
+
+    def run_write(self, keys, line, text, allowance):
+        allow(is_number64(line) and is_number64(allowance), "number")
+        return write_call(keys, line, text, allowance, self.module) + (None,)
+
+    def run_recover(self, keys, allowance):
+        allow(is_number64(allowance), "number")
+        return recover_call(keys, allowance, self.module) + (None,)
+
+    def run_list(self, output):
+        answer, output = dirty_list_call(output, self.module.control,
+                                         self.module.cache)
+        return answer, self.module, output
+
+    def run_format(self, keys, depth):
+        allow(is_number64(depth), "number")
+        return format_call(keys, depth, self.module) + (None,)
+
+    def note_write(self, answer, keys, line, text, allowance):
+        if answer.kind == "cut":
+            whole, _ = write_call(keys, line, text, UNLIMITED, self.module)
+            batch_cells = (whole.stores - 3) // 2
+            commits = answer.stores > batch_cells
+        else:
+            commits = answer.kind == "done"
+        if commits:
+            self.counts[line] = self.counts.get(line, 0) + 1
+            self.texts[line] = text
+            self.committed += 1
+
+    def lines_to_read(self):
+        """Every written line and some that may be unwritten."""
+        last = lines(self.depth) - 1
+        chosen = {0, 1, 63, 64, 255, 256, last // 2, last}
+        chosen.update(self.texts)
+        chosen.update(min(line + 1, last) for line in list(self.texts)[:8])
+        return sorted(chosen)
+
+    def check_recovered(self, told_sum, to_read=None):
+        h, keys, module = self.depth, self.keys, self.module
+        found = slots_of_cache(module.cache)
+        blocks = []
+        counter_sum = 0
+        behind = 0
+        for page in range(pages(h)):
+            counts = tuple(self.counts.get(line, 0)
+                           for line in range(64 * page, 64 * page + 64))
+            now = minors_of(node_of(h, module.array, found, 0, page))
+            stored = minors_of(array_node(h, module.array, 0, page))
+            claim(now == counts, "counters of page %d" % page)
+            claim(all(n - s <= 3 for n, s in zip(now, stored)),
+                  "page %d too far ahead of the array" % page)
+            counter_sum += sum(now)
+            behind += sum(now) - sum(stored)
+            blocks.append(fresh_block(counts))
+        claim(counter_sum == self.committed, "sum of counters")
+        claim(told_sum == behind, "told sum")
+        tree = tree_over(keys, h, blocks)
+        for level, contents in enumerate(tree):
+            for index, content in enumerate(contents):
+                claim(node_of(h, module.array, found, level, index) == content,
+                      "node %d of level %d" % (index, level))
+        claim(root_of(module.control) == node_tag(keys, tree[h][0], h, 0),
+              "root")
+        for line in self.lines_to_read() if to_read is None else to_read:
+            self.check_read(line)
+
+    def check_read(self, line):
+        """A read as the next call gives what the book has."""
+        written = line in self.texts
+        kind = "done" if written else "blank"
+        text = self.texts.get(line, bytes(CONTENT))
+        before = b"\xa5" * CONTENT
+        answer, _, output = read_call(self.keys, line, UNLIMITED, before,
+                                      self.module)
+        claim((answer.kind, output) == (kind, text), "read of line %d" % line)
+        again, _, output = read_call(self.keys, line, answer.stores, before,
+                                     self.module)
+        claim((again, output) == (answer, text),
+              "read of line %d with no store to spare" % line)
+
+
+@lru_cache(maxsize=1 << 14)
+def fresh_block(counts):
+    return counter_block(0, counts)
+
+
+def run_history(keys, depth, events):
+    """Run a list of events; gives the History at its end."""
+    history = History(keys, depth)
+    for event in events:
+        history.step(event)
+    return history
+
+
+def self_check():
+    block = chacha20_block(bytes(range(32)), 1,
+                           bytes.fromhex("000000090000004a00000000"))
+    assert block[:8] == bytes.fromhex("10f1e7e4d13b5915")
+    assert siphash_2_4(bytes(range(16)), b"") == 0x726FDB47DD0E0E31
+
+
+if __name__ == "__main__":
+    self_check()
+    print("self-check passed")

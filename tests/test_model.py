@@ -1,0 +1,869 @@
+"""Tests of the reference model; run as a plain script."""
+
+import random
+import sys
+
+import model
+from model import (Answer, History, Module, UNLIMITED, array_length, bench,
+                   brought_forward, cache_length, cells, counter_block,
+                   dirty_list_call, for_c, format_call, minors_of, node_cell,
+                   number8, pages, lines, read_call, recover_call,
+                   run_history, shadow_cell, slot_of, slots, write_call,
+                   zero_module)
+
+KEYS = bytes(range(48))
+OTHER_PAD = bytes([255]) + KEYS[1:]
+OTHER_TAG = KEYS[:47] + bytes([255])
+OUTPUT = b"\x5a" * 64
+
+results = {"passed": 0, "failed": 0}
+
+
+def check(what, holds):
+    results["passed" if holds else "failed"] += 1
+    if not holds:
+        print("FAILED: " + what)
+
+
+def equal(what, got, wanted):
+    if got != wanted:
+        what += ": got %.200s, wanted %.200s" % (repr(got), repr(wanted))
+    check(what, got == wanted)
+
+
+def attempt(what, action):
+    """Count one action as passed unless a clause of the model fails."""
+    try:
+        action()
+    except AssertionError as failure:
+        check("%s: %s" % (what, failure), False)
+    else:
+        check(what, True)
+
+
+def raises_value_error(what, action):
+    try:
+        action()
+    except ValueError:
+        check(what, True)
+    else:
+        check(what, False)
+
+
+def text_of(byte):
+    return bytes([byte % 256]) * 64
+
+
+def patched(data, offset, piece):
+    return data[:offset] + piece + data[offset + len(piece):]
+
+
+def cell_patched(array, cell, offset, piece):
+    return patched(array, 72 * cell + offset, piece)
+
+
+# ---- Primitives and layout ----
+
+def test_primitives():
+    equal("quarter round",
+          model.quarter_round(0x11111111, 0x01020304, 0x9B8D6F43, 0x01234567),
+          (0xEA2A92F4, 0xCB1CF8CE, 0x4581472E, 0x5881C4BB))
+    equal("ChaCha20 block",
+          model.chacha20_block(bytes(range(32)), 1, bytes.fromhex(
+              "000000090000004a00000000")).hex(),
+          "10f1e7e4d13b5915500fdd1fa32071c4"
+          "c7d1f4c733c068030422aa9ac3d46c4e"
+          "d2826446079faa0914c2d705d98b02a2"
+          "b5129cd1de164eb9cbd083e8a2503c4e")
+    equal("ChaCha20 block of zeros",
+          model.chacha20_block(bytes(32), 0, bytes(12)).hex()[:32],
+          "76b8e0ada0f13d90405d6ae55386bd28")
+    key = bytes(range(16))
+    equal("SipHash of nothing", model.siphash_2_4(key, b""),
+          0x726FDB47DD0E0E31)
+    equal("SipHash of 15 bytes", model.siphash_2_4(key, bytes(range(15))),
+          0xA129CA6149BE45E5)
+
+
+def test_arithmetic():
+    for minor, phase, wanted in ((4, 2, 6), (0, 3, 3), (5, 1, 5), (6, 1, 9),
+                                 (124, 3, 127), (127, 3, 127),
+                                 (125, 0, None), (126, 1, None),
+                                 (0, 4, None), (0, 0, 0)):
+        equal("minor %d, phase %d" % (minor, phase),
+              brought_forward(minor, phase), wanted)
+    equal("top of depth 1", node_cell(1, 1, 0), 520)
+    equal("block of page 0", node_cell(1, 0, 0), 512)
+    equal("shadow of slot 0", shadow_cell(1, 0), 521)
+    equal("shadow of slot 4", shadow_cell(1, 4), 525)
+    equal("lines of depth 1", lines(1), 512)
+    block = counter_block(0, [0, 127] + [0] * 62)
+    equal("packed minor 1", (block[8], block[9], sum(block[10:])),
+          (0x80, 0x3F, 0))
+    everything = tuple(range(64, 128))
+    equal("minors there and back",
+          minors_of(counter_block(7, everything)), everything)
+    for h, wanted in ((1, (8, 512, 527, 37944, 438, 6)),
+                      (2, (64, 4096, 4177, 300744, 584, 8)),
+                      (3, (512, 32768, 33363, 2402136, 730, 10))):
+        equal("sizes of depth %d" % h,
+              (pages(h), lines(h), cells(h), array_length(h),
+               cache_length(h), slots(h)), wanted)
+    equal("slots", (slot_of(0, 7), slot_of(1, 0), slot_of(1, 7),
+                    slot_of(2, 1), slot_of(3, 0)), (3, 4, 5, 7, 8))
+
+
+# ---- Bench ----
+
+BENCH_INPUT = ("w 0 17,w 0 18,r 0,k 2,w 0 19,p,r 0,k 4,w 0 20,p,r 0,k 1,"
+               "w 0 99,p,r 0,r 64")
+BENCH_OUTPUT = """\
+w 0 done 9
+w 0 done 5
+r 0 done 0 18
+w 0 cut 2
+p done 3 3
+r 0 done 0 19
+w 0 cut 4
+p done 4 0
+r 0 done 0 20
+w 0 cut 1
+p done 0 0
+r 0 done 0 20
+r 64 blank 5 0"""
+
+
+def test_bench():
+    got = bench(BENCH_INPUT.split(","))
+    wanted = BENCH_OUTPUT.split("\n")
+    equal("bench length", len(got), len(wanted))
+    for number, pair in enumerate(zip(got, wanted)):
+        equal("bench line %d" % (number + 1), *pair)
+    for bad in ("", " ", "w", "w 0", "w 0 256", "w 0 1 2", "w  0 1", " r 0",
+                "r 0 ", "r", "r -1", "r +1", "r 0x1", "r 1_0", "R 0", "p 0",
+                "p ", "k", "k 1 2", "k 18446744073709551616", "r \u0661",
+                "r 18446744073709551616", "q", "r\t0", "r 0\r",
+                "r " + "9" * 5000, "w 0 1.0"):
+        equal("bench of %r" % bad[:30], bench([bad]), ["?"])
+    equal("bench refusals",
+          bench(["r 512", "w 18446744073709551615 0", "k 2", "w 0 1",
+                 "r 0", "p", "k 0", "?", "r 0", "k 0", "k 9", "w 64 255"]),
+          ["r 512 refused 6", "w 18446744073709551615 refused 6",
+           "w 0 cut 2", "r 0 blank 7 0", "p done 0 0", "?",
+           "r 0 blank 0 0", "w 64 done 7"])
+    equal("bench while pending",
+          bench(["k 4", "w 0 1", "r 0", "w 0 2", "k 3", "p", "p", "r 0"]),
+          ["w 0 cut 4", "r 0 refused 22", "w 0 refused 22", "p cut 3",
+           "p done 5 1", "r 0 done 0 1"])
+    equal("bench without a cache after a cut",
+          bench(["w 0 1", "k 0", "w 0 2", "r 0", "p", "r 0"]),
+          ["w 0 done 9", "w 0 cut 0", "r 0 refused 24", "p done 0 1",
+           "r 0 done 0 1"])
+    equal("bench holds an allowance once",
+          bench(["k 0", "r 600", "r 0", "k 00", "p", "r 007"]),
+          ["r 600 refused 6", "r 0 blank 7 0", "p done 0 0",
+           "r 7 blank 0 0"])
+
+
+# ---- Single calls ----
+
+def formatted(depth):
+    return format_call(KEYS, depth, zero_module(depth))[1]
+
+
+def written(depth, *where):
+    """A module after done writes of the named lines, in order."""
+    module = formatted(depth)
+    for count, line in enumerate(where):
+        answer, module = write_call(KEYS, line, text_of(count), UNLIMITED,
+                                    module)
+        assert answer.kind == "done"
+    return module
+
+
+def test_format():
+    for depth in (1, 2, 3):
+        dirty = Module(b"\x11" * array_length(depth), b"\x22" * 664,
+                       b"\x33" * cache_length(depth))
+        answer, module = format_call(KEYS, depth, dirty)
+        equal("format %d" % depth, answer, Answer("done", 0, 0, 0, 0))
+        equal("control of format %d" % depth,
+              (module.control[:7], module.control[15:]),
+              (b"PIGK\x01" + bytes([depth, 1]), bytes(649)))
+        equal("cache of format %d" % depth, module.cache,
+              bytes(cache_length(depth)))
+        check("data and blocks of format %d are zero" % depth,
+              not any(module.array[:72 * node_cell(depth, 1, 0)]))
+        check("shadow of format %d is zero" % depth,
+              not any(module.array[72 * shadow_cell(depth, 0):]))
+        check("side bytes of format %d are zero" % depth,
+              not any(any(module.array[72 * cell + 64:72 * cell + 72])
+                      for cell in range(cells(depth))))
+        attempt("fresh state of depth %d" % depth,
+                lambda d=depth: run_history(
+                    KEYS, d, [("recover", KEYS, 0)]))
+
+
+def test_bytes_of_a_write():
+    """Pad, tags and cells put together from the primitives alone."""
+    text = bytes(range(100, 164))
+    major = 0x0807060504030201
+    module = written(1, 130)
+    block = number8(major) + module.cache[2 * 73 + 17:3 * 73]
+    module = module._replace(cache=patched(module.cache, 2 * 73 + 9, block))
+    answer, module = write_call(KEYS, 130, text, UNLIMITED, module)
+    equal("write with a major", answer, Answer("done", 0, 5, 0, 0))
+    stream = model.chacha20_block(
+        KEYS[:32], 130, bytes([2, 0, 0, 0, 1, 2, 3, 4, 5, 6, 7, 8]))
+    content = bytes(a ^ b for a, b in zip(text, stream))
+
+    def tag(message):
+        return model.siphash_2_4(KEYS[32:], message).to_bytes(8, "little")
+
+    side = b"\x02" + tag(content + number8(130) + number8(major)
+                         + number8(2))[:7]
+    equal("data cell", module.array[72 * 130:72 * 131], content + side)
+    block = number8(major) + (2 << 14).to_bytes(56, "little")
+    equal("counter slot", module.cache[2 * 73:3 * 73],
+          number8(3) + b"\x01" + block)
+    tags = [tag(bytes(64) + number8(0) + number8(page)) for page in range(8)]
+    tags[2] = tag(block + number8(0) + number8(2))
+    equal("top slot", module.cache[4 * 73:5 * 73],
+          number8(1) + b"\x01" + b"".join(tags))
+    equal("root", module.control[7:15],
+          tag(b"".join(tags) + number8(1) + number8(0)))
+    equal("shadow cells", module.array[72 * 521:],
+          bytes(144) + number8(3) + bytes(136) + number8(1) + bytes(136))
+    answer, after, output = read_call(KEYS, 130, 0, OUTPUT, module)
+    equal("read with a major", (answer, after, output),
+          (Answer("done", 0, 0, 0, 0), module, text))
+    behind = module._replace(
+        array=cell_patched(module.array, 514, 0, number8(major)),
+        cache=bytes(cache_length(1)))
+    equal("recovery with a major", recover_call(KEYS, 0, behind),
+          (Answer("done", 0, 0, 2, 0),
+           behind._replace(cache=module.cache)))
+
+
+def test_dirty_slots():
+    def listed(module):
+        _, output = dirty_list_call(bytes(32), module.control, module.cache)
+        numbers = [model.number_at(output, 8 * i) for i in range(4)]
+        return [n for n in numbers if n != 2**64 - 1]
+
+    def top_dirty(module):
+        return module.cache[4 * 73 + 8]
+
+    module = formatted(1)
+    answer, module, _ = read_call(KEYS, 0, UNLIMITED, OUTPUT, module)
+    equal("clean after a load", (answer.stores, listed(module),
+                                 top_dirty(module)), (7, [], 0))
+    answer, module, _ = read_call(KEYS, 256, UNLIMITED, OUTPUT, module)
+    equal("clean former owner", (answer.stores, listed(module)), (5, []))
+    for count, wanted in ((1, [4]), (2, [4]), (3, [4]), (4, []), (5, [4])):
+        answer, module = write_call(KEYS, 257, OUTPUT, UNLIMITED, module)
+        equal("stores of write %d" % count, answer.stores,
+              7 if count == 4 else 5)
+        equal("dirty after write %d" % count,
+              (listed(module), top_dirty(module)), (wanted, 1))
+    answer, module, _ = read_call(KEYS, 0, UNLIMITED, OUTPUT, module)
+    equal("dirty former owner", (answer.stores, listed(module)), (7, []))
+    equal("evicted block", module.array[72 * 516:72 * 517],
+          counter_block(0, [0, 5] + [0] * 62) + bytes(8))
+    answer, module = recover_call(KEYS, 0, module)
+    equal("all dirty after recovery",
+          (answer, listed(module), top_dirty(module)),
+          (Answer("done", 0, 0, 0, 0), [0], 1))
+    equal("empty slots after recovery", module.cache[73:4 * 73], bytes(219))
+    for line in (64, 128, 448):
+        _, module = write_call(KEYS, line, OUTPUT, UNLIMITED, module)
+    equal("four dirty pages", listed(module), [0, 1, 2, 7])
+
+
+def peeled(call, defects, last):
+    """Put all defects in, then take them out from the first on: each time
+    the lowest step must be the one that answers."""
+    for start in range(len(defects) + 1):
+        inputs = {}
+        for _, defect in defects[start:]:
+            for name, change in defect.items():
+                inputs.setdefault(name, []).append(change)
+        wanted = defects[start][0] if start < len(defects) else last
+        call(inputs, wanted)
+
+
+def test_refusals():
+    short = lambda data: data[:-1]
+    longer = lambda data: data + b"\x00"
+
+    # Line 0 has been written and its page put out of its slot by page 4.
+    for minor, operation in ((1, "read"), (127, "write")):
+        base = written(1, *([0] * minor + [256]))
+
+        def call(inputs, wanted, base=base, operation=operation):
+            values = {"keys": KEYS, "line": 0, "buffer": OUTPUT,
+                      "array": base.array, "control": base.control,
+                      "cache": base.cache}
+            for name, changes in inputs.items():
+                for change in changes:
+                    values[name] = change(values[name])
+            module = Module(values["array"], values["control"],
+                            values["cache"])
+            for allowance in (0, UNLIMITED):
+                if operation == "read":
+                    answer, after, output = read_call(
+                        values["keys"], values["line"], allowance,
+                        values["buffer"], module)
+                else:
+                    answer, after = write_call(
+                        values["keys"], values["line"], values["buffer"],
+                        allowance, module)
+                    output = values["buffer"]
+                if wanted[0] == "done":
+                    equal("%s without a defect" % operation, answer.kind,
+                          "done" if allowance else "cut")
+                    continue
+                equal("%s refusal" % operation,
+                      (answer, after, output),
+                      (Answer("refused", wanted[0], 0, *wanted[1:]), module,
+                       values["buffer"]))
+
+        data_defect = {"array": lambda a: cell_patched(
+            a, 0, 64, bytes([a[64] ^ 4]))}
+        tail = [((25, 0, 0), data_defect)] if operation == "read" else []
+        peeled(call, [
+            ((2, 0, 0), {"keys": short}),
+            ((3, 0, 0), {"control": longer}),
+            ((21, 0, 0), {"control": lambda c: patched(c, 0, b"p")}),
+            ((4, 0, 0), {"array": longer}),
+            ((5, 0, 0), {"cache": longer}),
+            ((7, 0, 0), {"buffer": short}),
+            ((6, 0, 0), {"line": lambda line: 512}),
+            ((22, 0, 0), {"control": lambda c: patched(c, 15, b"\x01")}),
+            ((23, 0, 0), {"cache": lambda c: patched(c, 73, number8(1))}),
+            ((24, 0, 0), {"array": lambda a: cell_patched(
+                a, 512, 0, b"\x01")}),
+        ] + tail, (26, 0, 0) if operation == "write" else ("done",))
+
+    # Slot 2 is empty, and page 0's block is behind its data cells.
+    base = written(1, 0, 0, 0, 1, 64)
+    cut_answer, pending = write_call(KEYS, 64, text_of(9), 3, base)
+    equal("pending base", cut_answer, Answer("cut", 0, 3, 0, 0))
+
+    def recovery(inputs, wanted):
+        values = {"keys": KEYS, "array": pending.array,
+                  "control": pending.control, "cache": pending.cache}
+        for name, changes in inputs.items():
+            for change in changes:
+                values[name] = change(values[name])
+        module = Module(values["array"], values["control"], values["cache"])
+        answer, after = recover_call(values["keys"], UNLIMITED, module)
+        if wanted[0] == "done":
+            equal("recovery", answer, Answer("done", 0, 3, 6, 0))
+            return
+        late = wanted[0] in (27, 28, 29)
+        equal("recovery refusal", answer,
+              Answer("refused", wanted[0], 3 if late else 0, *wanted[1:]))
+        equal("cache after a refused recovery", after.cache, module.cache)
+        if late:
+            stores = model.stores_of_pending(module.control)
+            equal("pending part", (after.array, after.control),
+                  model.apply_stores(stores, module.array, module.control))
+            for allowance in range(3):
+                equal("cut before a late refusal",
+                      recover_call(KEYS, allowance, module)[0],
+                      Answer("cut", 0, allowance, 0, 0))
+        else:
+            equal("module after a refused recovery", after, module)
+
+    peeled(recovery, [
+        ((2, 0, 0), {"keys": longer}),
+        ((3, 0, 0), {"control": short}),
+        ((21, 0, 0), {"control": lambda c: patched(c, 24, number8(527))}),
+        ((4, 0, 0), {"array": short}),
+        ((5, 0, 0), {"cache": short}),
+        ((27, 2, 0), {"array": lambda a: cell_patched(
+            a, shadow_cell(1, 2), 0, number8(2))}),
+        ((27, 4, 0), {"array": lambda a: cell_patched(
+            a, shadow_cell(1, 4), 0, number8(0))}),
+        ((28, 0, 0), {"array": lambda a: cell_patched(a, 5, 64, b"\x04")}),
+        ((28, 0, 0), {"array": lambda a: cell_patched(
+            a, 512, 0, counter_block(0, [0] * 63 + [125]))}),
+        ((29, 0, 0), {"array": lambda a: cell_patched(a, 519, 9, b"\x01")}),
+    ], ("done",))
+
+    # A shadow that lists nothing: the array's top has to give the root.
+    fresh = formatted(1)
+    bad_top = fresh._replace(array=cell_patched(fresh.array, 520, 3, b"\x07"))
+    bad_root = fresh._replace(control=patched(fresh.control, 7, b"\x00" * 8))
+    for module in (bad_top, bad_root):
+        equal("top of the array", recover_call(KEYS, UNLIMITED, module)[0],
+              Answer("refused", 29, 0, 0, 0))
+        equal("top on the path",
+              read_call(KEYS, 9, UNLIMITED, OUTPUT, module)[0],
+              Answer("refused", 24, 0, 1, 0))
+
+    # Places of a bad node, and of a bad shadow, in deeper trees.
+    deep = formatted(3)
+    for level, index in ((3, 0), (2, 6), (1, 53), (0, 427)):
+        module = deep._replace(array=cell_patched(
+            deep.array, node_cell(3, level, index), 63, b"\x80"))
+        equal("bad node of level %d" % level,
+              write_call(KEYS, 64 * 427 + 9, OUTPUT, 0, module)[0],
+              Answer("refused", 24, 0, level, index))
+    for depth, slot, owner, place in (
+            (1, 5, 2, 5), (1, 4, 2, 4), (1, 3, 4, 4), (1, 3, 12, 3),
+            (2, 0, 61, 6), (2, 4, 7, 6), (2, 4, 9, 4), (2, 5, 1, 5),
+            (2, 7, 2, 7), (3, 6, 7, 8), (3, 9, 2, 9), (3, 2, 511, 8),
+            (3, 8, 2**63, 8)):
+        module = formatted(depth)
+        module = module._replace(array=cell_patched(
+            module.array, shadow_cell(depth, slot), 0, number8(owner)))
+        equal("shadow of slot %d, owner %d, depth %d" % (slot, owner, depth),
+              recover_call(KEYS, 0, module)[0],
+              Answer("refused", 27, 0, place, 0))
+
+    def formatting(inputs, wanted):
+        values = {"keys": KEYS, "depth": 2,
+                  "array": bytes(array_length(2)), "control": bytes(664),
+                  "cache": bytes(cache_length(2))}
+        for name, changes in inputs.items():
+            for change in changes:
+                values[name] = change(values[name])
+        module = Module(values["array"], values["control"], values["cache"])
+        answer, after = format_call(values["keys"], values["depth"], module)
+        if wanted[0] == "done":
+            equal("format", answer.kind, "done")
+            return
+        equal("format refusal", (answer, after),
+              (Answer("refused", wanted[0], 0, 0, 0), module))
+
+    for depth in (0, 4, 2**64 - 1):
+        peeled(formatting, [
+            ((1,), {"depth": lambda _, d=depth: d}),
+            ((2,), {"keys": short}),
+            ((3,), {"control": short}),
+            ((4,), {"array": longer}),
+            ((5,), {"cache": longer}),
+        ], ("done",))
+
+    def listing(inputs, wanted):
+        values = {"output": b"\x01" * 32, "control": pending.control,
+                  "cache": base.cache}
+        for name, changes in inputs.items():
+            for change in changes:
+                values[name] = change(values[name])
+        answer, output = dirty_list_call(values["output"], values["control"],
+                                         values["cache"])
+        if wanted[0] == "done":
+            equal("list", (answer, output),
+                  (Answer("done", 0, 0, 0, 0),
+                   number8(0) + number8(1) + b"\xff" * 16))
+            return
+        equal("list refusal", (answer, output),
+              (Answer("refused", wanted[0], 0, 0, 0), values["output"]))
+
+    peeled(listing, [
+        ((3,), {"control": short}),
+        ((21,), {"control": lambda c: patched(c, 6, b"\x02")}),
+        ((5,), {"cache": longer}),
+        ((7,), {"output": longer}),
+        ((23,), {"cache": lambda c: patched(c, 8, b"\x02")}),
+    ], ("done",))
+
+    # The ways in which a control record or a cache can be bad.
+    for offset, piece in ((3, b"J"), (4, b"\x00"), (4, b"\x02"),
+                          (5, b"\x00"), (5, b"\x04"), (6, b"\x00"),
+                          (15, b"\x09"), (15, b"\xff")):
+        module = base._replace(control=patched(base.control, offset, piece))
+        equal("control byte %d" % offset,
+              recover_call(KEYS, UNLIMITED, module)[0].number, 21)
+    ignored = patched(base.control, 24 + 80, number8(2**64 - 1))
+    for count, wanted in ((0, 0), (1, 0), (2, 21)):
+        control = patched(ignored, 15, bytes([count]))
+        equal("cell number in an unused place, count %d" % count,
+              dirty_list_call(bytes(32), control, base.cache)[0].number,
+              wanted)
+    for slot, owner, dirty, wanted in (
+            (2, 0, 1, 23), (2, 3, 0, 0), (2, 3, 1, 0), (2, 3, 2, 23),
+            (2, 2, 0, 23), (2, 7, 0, 0), (2, 11, 0, 23), (3, 2**64 - 1, 0, 23),
+            (5, 1, 0, 23), (5, 2, 0, 23), (4, 0, 0, 23), (4, 3, 0, 23)):
+        cache = patched(base.cache, 73 * slot,
+                        number8(owner) + bytes([dirty]))
+        module = base._replace(cache=cache)
+        equal("slot %d of owner %d" % (slot, owner),
+              read_call(KEYS, 0, UNLIMITED, OUTPUT, module)[0].number, wanted)
+
+
+def test_c_side():
+    full = b"\xee" * 24
+    for answer, code, numbers in (
+            (Answer("done", 0, 5, 0, 0), 0, (5, 0, 0)),
+            (Answer("done", 0, 3, 6, 0), 0, (3, 6, 0)),
+            (Answer("blank", 0, 7, 0, 0), 1, (7, 0, 0)),
+            (Answer("cut", 0, 4, 0, 0), 2, (4, 0, 0)),
+            (Answer("refused", 24, 0, 2, 63), 124, (0, 2, 63)),
+            (Answer("refused", 27, 5, 4, 0), 127, (5, 4, 0))):
+        equal("C side of %r" % (answer,), for_c(full, answer),
+              (code, b"".join(number8(n) for n in numbers)))
+        for length in (0, 23, 25):
+            equal("C side, %d bytes" % length,
+                  for_c(bytes(length), answer), (107, bytes(length)))
+
+
+def test_stores_one_by_one():
+    """Each further unit of allowance makes exactly the next store."""
+    module = written(1, 256, 256, 256, 0)
+    whole, after = write_call(KEYS, 256, text_of(77), UNLIMITED, module)
+    batch = model.queue_of(patched(after.control, 15, b"\x04"))
+    equal("cells of the batch", [cell for cell, _ in batch],
+          [512, shadow_cell(1, 0), 516, 256])
+    array, control = bytearray(module.array), bytearray(module.control)
+    new_root = after.control[7:15]
+    for k in range(12):
+        answer, state = write_call(KEYS, 256, text_of(77), k, module)
+        equal("state after %d stores" % k, (state.array, state.control),
+              (bytes(array), bytes(control)))
+        if k < 11:
+            equal("cut %d" % k, (answer, state.cache),
+                  (Answer("cut", 0, k, 0, 0), module.cache))
+        if k < 4:
+            cell, data = batch[k]
+            control[24 + 80 * k:104 + 80 * k] = number8(cell) + data
+        elif k == 4:
+            control[15:24] = bytes([4]) + new_root
+        elif k < 9:
+            cell, data = batch[k - 5]
+            array[72 * cell:72 * cell + 72] = data
+        elif k == 9:
+            control[7:15] = new_root
+        else:
+            control[15] = 0
+    equal("done at 11", (answer, state), (Answer("done", 0, 11, 0, 0), after))
+    equal("whole write", whole, answer)
+
+
+def test_batch_bound():
+    for depth, others, wanted in ((1, 256, 11), (2, 1024, 15), (3, 8192, 19)):
+        module = written(depth, 0, 0, 0, others)
+        answer, _ = write_call(KEYS, 0, text_of(1), UNLIMITED, module)
+        equal("largest batch of depth %d" % depth, answer.stores, wanted)
+
+
+# ---- Histories ----
+
+def test_list_rule():
+    write = ("write", KEYS, 0, text_of(1), UNLIMITED)
+    junk = b"\xc3" * cache_length(1)
+    cut_write = ("write", KEYS, 0, text_of(2), 2)
+    forbidden = {
+        "done format": [("format", KEYS, 1)],
+        "read after a cut": [("power_cut", junk),
+                             ("read", KEYS, 0, UNLIMITED, OUTPUT)],
+        "list after a cut": [write, cut_write, ("list", bytes(32))],
+        "refused format after a cut": [("power_cut", junk),
+                                       ("format", KEYS, 0)],
+        "write after a cut recovery": [write, cut_write, ("recover", KEYS, 1),
+                                       write],
+        "cache length": [("power_cut", junk + b"\x00")],
+        "other keys, blank read": [write, ("read", OTHER_TAG, 1, UNLIMITED,
+                                           OUTPUT)],
+        "other keys, done read": [write, ("read", OTHER_PAD, 0, UNLIMITED,
+                                          OUTPUT)],
+        "other keys, done recovery": [write, ("recover", OTHER_PAD, 0)],
+        "other keys, cut recovery": [write, cut_write,
+                                     ("recover", OTHER_TAG, 0)],
+        "other keys, refused recovery with stores": [
+            write, cut_write, ("recover", OTHER_TAG, UNLIMITED)],
+        "unknown event": [("erase", KEYS)],
+        "allowance": [("recover", KEYS, 2**64)],
+    }
+    for what, events in forbidden.items():
+        raises_value_error(what, lambda e=events: run_history(KEYS, 1, e))
+    raises_value_error("depth", lambda: run_history(KEYS, 4, []))
+    raises_value_error("keys", lambda: run_history(KEYS[:47], 1, []))
+    allowed = [
+        write, ("format", KEYS, 3), ("format", b"", 1),
+        ("format", OTHER_TAG, 2**64 - 1), ("list", b""),
+        ("read", b"k", 0, 0, OUTPUT), ("read", OTHER_TAG, 0, 0, OUTPUT),
+        ("write", OTHER_TAG, 64, text_of(3), 0),
+        ("recover", OTHER_TAG, 0), ("recover", KEYS + KEYS, 0), cut_write,
+        ("recover", KEYS[:5], 0), ("power_cut", junk), ("recover", KEYS, 1),
+        ("power_cut", junk), ("recover", KEYS, UNLIMITED), ("list", bytes(32)),
+        ("recover", KEYS, 0)]
+    attempt("allowed list", lambda: run_history(KEYS, 1, allowed))
+
+
+def test_checker_bites():
+    """A module that has been tampered with fails the clauses."""
+    def tampered(change):
+        history = History(KEYS, 1)
+        for line in (0, 0, 256, 0):
+            history.step(("write", KEYS, line, text_of(line + 1), UNLIMITED))
+        answer, _ = history.step(("recover", KEYS, UNLIMITED))
+        change(history)
+        history.check_recovered(answer.first)
+
+    def book_count(history):
+        history.counts[0] += 1
+
+    def book_total(history):
+        history.committed += 1
+
+    def book_text(history):
+        history.texts[256] = text_of(200)
+
+    def data_cell(history):
+        history.module = history.module._replace(
+            array=cell_patched(history.module.array, 256, 0, b"\x00\x00"))
+
+    def top(history):
+        history.module = history.module._replace(
+            cache=patched(history.module.cache, 73 * 4 + 9 + 20, b"\x00\x00"))
+
+    def root(history):
+        history.module = history.module._replace(
+            control=patched(history.module.control, 7, bytes(8)))
+
+    attempt("nothing tampered with",
+            lambda: tampered(lambda history: None))
+    for change in (book_count, book_total, book_text, data_cell, top, root):
+        try:
+            tampered(change)
+        except AssertionError:
+            check("tampering seen", True)
+        else:
+            check("tampering not seen: " + change.__name__, False)
+
+
+def random_cache(rng, history):
+    length = cache_length(history.depth)
+    style = rng.randrange(3)
+    if style == 0:
+        return bytes(length)
+    if style == 1:
+        return history.module.cache
+    return bytes(rng.randrange(256) for _ in range(length))
+
+
+def random_keys(rng):
+    style = rng.randrange(4)
+    if style == 0:
+        return KEYS[:rng.randrange(48)]
+    if style == 1:
+        return KEYS + bytes(1 + rng.randrange(4))
+    return OTHER_TAG if style == 2 else OTHER_PAD
+
+
+def random_event(rng, history, hot):
+    keys = random_keys(rng) if rng.random() < 0.1 else KEYS
+    allowance = rng.randrange(20) if rng.random() < 0.3 else UNLIMITED
+    style = rng.random()
+    if history.after_cut:
+        if style < 0.2:
+            return ("power_cut", random_cache(rng, history))
+        if rng.random() < 0.4:
+            allowance = rng.randrange(11)
+        return ("recover", keys, allowance)
+    line = rng.choice(hot)
+    if rng.random() < 0.1:
+        line = rng.randrange(lines(history.depth))
+    if rng.random() < 0.04:
+        line = lines(history.depth) + rng.choice((0, 1, 2**63))
+    length = 64 if rng.random() < 0.96 else rng.choice((0, 63, 65))
+    content = bytes([rng.randrange(256)]) * length
+    if style < 0.55:
+        return ("write", keys, line, content, allowance)
+    if style < 0.75:
+        return ("read", keys, line, allowance, content)
+    if style < 0.82:
+        return ("recover", keys, allowance)
+    if style < 0.88:
+        return ("list", bytes(32 if rng.random() < 0.8 else 31))
+    if style < 0.92:
+        return ("format", random_keys(rng) if rng.random() < 0.5 else KEYS,
+                rng.choice((0, 1, 2, 3, 4, 2**64 - 1)))
+    return ("power_cut", random_cache(rng, history))
+
+
+def check_step(history, before, event, answer, output):
+    """What holds of every single event, not only after a recovery."""
+    kind = event[0]
+    if kind == "power_cut":
+        return
+    if answer.kind == "refused":
+        model.claim(history.module == before, "module changed by a refusal")
+    if answer.kind == "cut":
+        model.claim(history.module.cache == before.cache, "cache at a cut")
+        model.claim(answer.stores == event[{"read": 3, "write": 4,
+                                            "recover": 2}[kind]],
+                    "stores of a cut")
+    if kind == "read":
+        line = event[2]
+        wanted = {"done": history.texts.get(line), "blank": bytes(64)}
+        model.claim(output == wanted.get(answer.kind, event[4]),
+                    "output of a read")
+        if answer.kind == "blank":
+            model.claim(line not in history.texts, "blank of a written line")
+    if kind == "list" and answer.kind == "done":
+        numbers = [model.number_at(output, 8 * i) for i in range(4)]
+        found = model.slots_of_cache(history.module.cache)[:4]
+        dirty = [slot.owner - 1 for slot in found if slot.dirty]
+        model.claim(numbers == dirty + [2**64 - 1] * (4 - len(dirty)),
+                    "listed pages")
+
+
+def random_history(seed, depth, length, hot_lines):
+    rng = random.Random(seed)
+    history = History(KEYS, depth)
+    hot = [64 * rng.randrange(pages(depth)) + rng.randrange(3)
+           for _ in range(hot_lines)]
+    events = []
+    seen = {}
+    while len(events) < length:
+        before = history.module
+        event = random_event(rng, history, hot)
+        try:
+            answer, output = history.step(event)
+        except ValueError:
+            model.claim(history.module == before, "changed by a bad event")
+            continue
+        check_step(history, before, event, answer, output)
+        events.append(event)
+        name = event[0]
+        if answer is not None:
+            name += " " + answer.kind
+            if answer.number:
+                name += " %d" % answer.number
+        seen[name] = seen.get(name, 0) + 1
+    history.step(("power_cut", random_cache(rng, history)))
+    answer, _ = history.step(("recover", KEYS, UNLIMITED))
+    if depth == 1:
+        history.check_recovered(answer.first, range(lines(1)))
+    events += [("power_cut", bytes(cache_length(depth))),
+               ("recover", KEYS, UNLIMITED)]
+    again = run_history(KEYS, depth, events)
+    model.claim((again.counts, again.texts) == (history.counts, history.texts),
+                "book of the same list")
+    return seen
+
+
+def test_random_histories():
+    seen = {}
+    for depth, runs, length, hot in ((1, 6, 120, 10), (2, 4, 100, 10),
+                                     (3, 1, 60, 8)):
+        for seed in range(runs):
+            what = "random history %d at depth %d" % (seed, depth)
+
+            def action(seed=seed, depth=depth, length=length, hot=hot):
+                part = random_history(1000 * depth + seed, depth, length, hot)
+                for name, count in part.items():
+                    seen[name] = seen.get(name, 0) + count
+
+            attempt(what, action)
+    for name in ("write done", "write cut", "read done", "read blank",
+                 "read cut", "recover done", "recover cut", "list done",
+                 "power_cut", "write refused 2", "write refused 6",
+                 "write refused 7", "read refused 2", "read refused 6",
+                 "read refused 7", "recover refused 2", "recover refused 29",
+                 "list refused 7", "format refused 1", "format refused 2",
+                 "format refused 4"):
+        check("random histories have no %s" % name, seen.get(name, 0) > 0)
+    check("random histories have no refusal of other keys on the path",
+          any(name in seen for name in ("read refused 24", "write refused 24",
+                                        "read refused 25")))
+
+
+def every_recovery(history, rounds):
+    """Recover, and also cut each recovery at every store and go on."""
+    ended = history.copy()
+    ended.step(("recover", KEYS, UNLIMITED))
+    ends = [ended]
+    if rounds == 0:
+        return ends
+    allowance = 0
+    while True:
+        partly = history.copy()
+        answer, _ = partly.step(("recover", KEYS, allowance))
+        if answer.kind != "cut":
+            return ends
+        ends += every_recovery(partly, rounds - 1)
+        allowance += 1
+
+
+def every_cut(depth, first, other, rounds):
+    """A write that evicts and reaches the stop-loss, cut at every store."""
+    history = History(KEYS, depth)
+    for line in (first, first, first, other):
+        history.step(("write", KEYS, line, text_of(line + 1), UNLIMITED))
+    last = ("write", KEYS, first, text_of(200))
+    whole, after = write_call(*last[1:], UNLIMITED, history.module)
+    cells_in_batch = (whole.stores - 3) // 2
+    for k in range(whole.stores + 1):
+        part = history.copy()
+        answer, _ = part.step(last + (k,))
+        model.claim(answer.kind == ("cut" if k < whole.stores else "done"),
+                    "answer of cut %d" % k)
+        if k == whole.stores:
+            part.step(("power_cut", b"\xff" * cache_length(depth)))
+        count = 4 if k > cells_in_batch else 3
+        model.claim(part.counts[first] == count, "book of cut %d" % k)
+        for ended in every_recovery(part, rounds):
+            model.claim((ended.counts[first], ended.counts[other])
+                        == (count, 1), "book after recovery")
+            if count == 4:
+                model.claim((ended.module.array, ended.module.control[7:15])
+                            == (after.array, after.control[7:15]),
+                            "array after cut %d" % k)
+            else:
+                model.claim(ended.module.array == history.module.array,
+                            "array after cut %d" % k)
+            model.claim(ended.module.control[15] == 0, "count")
+            # Work goes on: evict what was recovered, and cut again.
+            for line in (other, first + 1, first):
+                ended.step(("write", KEYS, line, text_of(line + 50),
+                            UNLIMITED))
+            ended.step(("power_cut", bytes(cache_length(depth))))
+            ended.step(("recover", KEYS, UNLIMITED))
+
+
+def test_every_cut():
+    attempt("every cut at depth 1", lambda: every_cut(1, 256, 0, 2))
+    attempt("every cut at depth 2", lambda: every_cut(2, 0, 1024, 1))
+    attempt("every cut at depth 3", lambda: every_cut(3, 0, 8192, 0))
+
+
+def test_worn_line():
+    """A line up to its last minor, with cuts on the way."""
+    def action():
+        history = History(KEYS, 1)
+        for count in range(127):
+            history.step(("write", KEYS, 70, text_of(count), UNLIMITED))
+            if count % 5 == 0:
+                history.step(("power_cut", bytes(cache_length(1))))
+                history.step(("recover", KEYS, UNLIMITED))
+        answer, _ = history.step(("write", KEYS, 70, text_of(1), 0))
+        model.claim(answer == Answer("refused", 26, 0, 0, 0), "last minor")
+        history.step(("power_cut", bytes(cache_length(1))))
+        answer, _ = history.step(("recover", KEYS, UNLIMITED))
+        model.claim(answer.first == 3, "sum for 127 writes")
+        model.claim(history.counts == {70: 127}, "127 writes")
+    attempt("worn line", action)
+
+
+def main():
+    for test in (test_primitives, test_arithmetic, test_bench, test_format,
+                 test_bytes_of_a_write, test_dirty_slots, test_refusals,
+                 test_c_side, test_stores_one_by_one, test_batch_bound,
+                 test_list_rule, test_checker_bites, test_random_histories,
+                 test_every_cut, test_worn_line):
+        try:
+            test()
+        except Exception as failure:
+            check("%s: %r" % (test.__name__, failure), False)
+    print("%d passed, %d failed" % (results["passed"], results["failed"]))
+    return 1 if results["failed"] else 0
+
+
+if __name__ == "__main__":
+    sys.exit(main())
