@@ -1,5 +1,7 @@
 pub mod Digits
 pub mod Order
 pub mod Parts
+pub mod Puts
 pub mod Rotation
 pub mod Words
+pub mod Zeros

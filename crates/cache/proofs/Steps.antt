@@ -1,0 +1,129 @@
+-- The turns of the loops over slots, and how their functions end. Assumes nothing.
+use mathlib.Core.Path.{_≡_, sym, ap, ap₂, _∙_, subst, fun-ext}
+use mathlib.Core.Bool.{Bool, true, false, _&&_, _||_, not, cond}
+use mathlib.Core.List.{List, [], _∷_, _++_}
+use Prim.Native.Nat.{ℕ, zero, suc, _+_, _-_, _*_, _<_, _≤_}
+use native.Mathlib.Nat.{add-zero, zero-add, mul-suc, mul-le-mul-left, le-refl}
+use native.Mathlib.Numerals.{add-one}
+use native.Mathlib.Omega.{arith}
+use lib.Dec.{leb, eqb}
+use lib.ListN.{length, take, drop, getD, set, length-take, drop-of-length-le}
+use lib.Seq.{drop-cons, take-suc-set, getD-take, length-take-le}
+use borrow.Author.Tests.{eq-eqb, ne-eqb}
+use Rattle.memory_map.specs.Map.{slots, shadowStart, cellOf, belongs}
+use Rattle.memory_map.specs.Map.Item.{shadow}
+use Rattle.words.specs.Bytes.{fromLe, part}
+use Rattle.memory_map.proofs.Laws.{slot-within}
+use Rattle.cache.specs.Cache.{owner, dirty, from, topSlot, stray, anyOwner, missingTop, orElse, badSlot, flagsFormed, shadowOwner, cacheOwners, isNothing, formed}
+use Rattle.cache.specs.declared.Found.{Found}
+use Rattle.cache.specs.declared.Found.the-variants.{Nothing, At}
+
+-- a step that is left stays within
+pub step-within : (first step s n len : ℕ) → s < n → first + step * n ≤ len → first + step * s + step ≤ len
+step-within first step s n len p q = omega (arith, mul-suc step s, mul-le-mul-left step p)
+
+from-snoc : (f : ℕ → ℕ) (s n : ℕ) → from f s (suc n) ≡ from f s n ++ (f (s + n) ∷ [])
+unfolding from
+from-snoc f s zero = rw add-zero
+from-snoc f s (suc n) =
+    ap (λ (l : List ℕ). f s ∷ l) (from-snoc f (suc s) n ∙ ap (λ (k : ℕ). from f (suc s) n ++ (f k ∷ [])) (omega arith))
+
+-- one more owner stored behind others
+pub owners-next : (f : ℕ → ℕ) (os : List ℕ) (s o : ℕ) → s < length os → take s os ≡ from f 0 s → o ≡ f s
+    → take (s + 1) (set os s o) ≡ from f 0 (s + 1)
+owners-next f os s o h e p =
+    rw (add-one s) (take-suc-set os s o h
+    ∙ ap₂ {C = List ℕ} (λ (l : List ℕ) (x : ℕ). l ++ (x ∷ [])) e (p ∙ ap f (sym (zero-add s))) ∙ sym (from-snoc f 0 s))
+
+-- the first of n elements from s on, and the rest
+rest : (os : List ℕ) (n s : ℕ) → s < n → n ≤ length os → drop s (take n os) ≡ getD os s 0 ∷ drop (suc s) (take n os)
+rest os n s p q =
+    drop-cons (take n os) s 0 (rw (length-take-le n os q) p)
+    ∙ ap (λ (x : ℕ). x ∷ drop (suc s) (take n os)) (getD-take n os s 0 p)
+
+none : (os : List ℕ) (n s : ℕ) → n ≤ s → drop s (take n os) ≡ []
+none os n s p = drop-of-length-le (take n os) (let end : length (take n os) ≤ s = rw (length-take n os) (omega arith) in end)
+
+-- an empty slot is in place, and a filled one where its owner belongs
+pub place-empty : (o : ℕ) (b : Bool) → o ≡ 0 → (eqb o 0 || b) ≡ true
+place-empty o b e = ap (λ (t : Bool). t || b) (eq-eqb o 0 e)
+
+pub place-filled : (o : ℕ) (b : Bool) → (o ≡ 0 → ⊥) → (eqb o 0 || b) ≡ b
+place-filled o b e = ap (λ (t : Bool). t || b) (ne-eqb o 0 e)
+
+pub stray-turn : (h : ℕ) (os : List ℕ) (n s : ℕ) (b : Bool) → s < n → n ≤ length os
+    → (eqb (getD os s 0) 0 || belongs h s (getD os s 0)) ≡ b
+    → stray h s (drop s (take n os)) ≡ cond b (stray h (s + 1) (drop (s + 1) (take n os))) (At s)
+unfolding stray
+stray-turn h os n s b p q e =
+    rw (rest os n s p q, add-one s) (ap (λ (t : Bool). cond t (stray h (suc s) (drop (suc s) (take n os))) (At s)) e)
+
+pub stray-end : (h : ℕ) (os : List ℕ) (n s : ℕ) → n ≤ s → stray h s (drop s (take n os)) ≡ Nothing
+unfolding stray
+stray-end h os n s p = rw (none os n s p)
+
+pub any-turn : (os : List ℕ) (n s : ℕ) (b : Bool) → s < n → n ≤ length os → eqb (getD os s 0) 0 ≡ b
+    → anyOwner (drop s (take n os)) ≡ (not b || anyOwner (drop (s + 1) (take n os)))
+unfolding anyOwner
+any-turn os n s b p q e =
+    rw (rest os n s p q, add-one s) (ap (λ (t : Bool). not t || anyOwner (drop (suc s) (take n os))) e)
+
+pub any-end : (os : List ℕ) (n s : ℕ) → n ≤ s → anyOwner (drop s (take n os)) ≡ false
+unfolding anyOwner
+any-end os n s p = rw (none os n s p)
+
+pub flags-turn : (c : List ℕ) (n s : ℕ) (b : Bool) → s < n → leb (dirty c s) (cond (eqb (owner c s) 0) 0 1) ≡ b
+    → flagsFormed c s (n - s) ≡ (b && flagsFormed c (s + 1) (n - (s + 1)))
+unfolding flagsFormed
+flags-turn c n s b p e =
+    let left : n - s ≡ suc (n - (s + 1)) = omega arith in
+    ap (flagsFormed c s) left ∙ ap₂ (λ (t : Bool) (k : ℕ). t && flagsFormed c k (n - (s + 1))) e (sym (add-one s))
+
+pub flags-end : (c : List ℕ) (n s : ℕ) → n ≤ s → flagsFormed c s (n - s) ≡ true
+unfolding flagsFormed
+flags-end c n s p = ap (flagsFormed c s) (let none : n - s ≡ 0 = omega arith in none)
+
+-- what is asked of dirty in an empty slot, and in a filled one
+pub flag-empty : (o d : ℕ) → o ≡ 0 → leb d (cond (eqb o 0) 0 1) ≡ leb d 0
+flag-empty o d e = ap (λ (b : Bool). leb d (cond b 0 1)) (eq-eqb o 0 e)
+
+pub flag-filled : (o d : ℕ) → (o ≡ 0 → ⊥) → leb d (cond (eqb o 0) 0 1) ≡ leb d 1
+flag-filled o d e = ap (λ (b : Bool). leb d (cond b 0 1)) (ne-eqb o 0 e)
+
+-- the ends of `bad_slot`: a stray slot, and none
+pub bad-stray : (h s : ℕ) (os : List ℕ) → stray h 0 os ≡ At s → At s ≡ badSlot h os
+unfolding badSlot orElse
+bad-stray h s os e = sym (ap (λ (f : Found). orElse f (missingTop h os)) e)
+
+pub bad-top : (h t : ℕ) (os : List ℕ) (b : Bool) → t ≡ topSlot h → stray h 0 (take (slots h) os) ≡ Nothing
+    → (anyOwner (take (slots h) os) && eqb (getD os t 0) 0) ≡ b → cond b (At t) Nothing ≡ badSlot h (take (slots h) os)
+unfolding badSlot orElse missingTop
+bad-top h t os b at e p =
+    let within : t < slots h = rw at (slot-within h h 0 (le-refl h)) in
+    sym
+    (ap (λ (f : Found). orElse f (missingTop h (take (slots h) os))) e
+    ∙ ap (λ (k : ℕ). cond (anyOwner (take (slots h) os) && eqb (getD (take (slots h) os) k 0) 0) (At k) Nothing) (sym at)
+    ∙ ap (λ (o : ℕ). cond (anyOwner (take (slots h) os) && eqb o 0) (At t) Nothing) (getD-take (slots h) os t 0 within)
+    ∙ ap (λ (y : Bool). cond y (At t) Nothing) p)
+
+-- owners read by f are those that g gives
+pub owners-are : (f g : ℕ → ℕ) (h n : ℕ) (os : List ℕ) → n ≡ slots h → ((s : ℕ) → f s ≡ g s)
+    → take n os ≡ from f 0 n → take (slots h) os ≡ from g 0 (slots h)
+owners-are f g h n os e same p =
+    subst (λ (k : ℕ). take k os ≡ from g 0 k) e (p ∙ ap (λ (k : ℕ → ℕ). from k 0 n) (fun-ext same))
+
+-- a slot's owner and shadow, as they lie one step after the other
+pub owner-step : (c : List ℕ) (s : ℕ) → fromLe (part c (0 + 73 * s) 8) ≡ owner c s
+unfolding owner
+owner-step c s = ap (λ (k : ℕ). fromLe (part c k 8)) (zero-add (73 * s))
+
+pub shadow-step : (h : ℕ) (a : List ℕ) (n s : ℕ) → n ≡ cellOf h (shadow 0) → fromLe (part a (72 * n + 72 * s) 8) ≡ shadowOwner h a s
+unfolding shadowOwner cellOf
+shadow-step h a n s e =
+    let same : 72 * n + 72 * s ≡ 72 * (shadowStart h + s) = omega arith in
+    ap (λ (k : ℕ). fromLe (part a k 8)) same
+
+-- `formed` by the slot that `bad_slot` finds
+pub formed-by : (h : ℕ) (c : List ℕ) (f : Found) → badSlot h (cacheOwners h c) ≡ f → (isNothing f && flagsFormed c 0 (slots h)) ≡ formed h c
+unfolding formed
+formed-by h c f e = sym (ap (λ (g : Found). isNothing g && flagsFormed c 0 (slots h)) e)

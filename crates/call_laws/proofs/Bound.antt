@@ -1,0 +1,24 @@
+-- The bound on a batch, with the depth as a parameter: a read's has at most 2h cells, a write's at most 2h + 2, so at most 8.
+-- Assumes nothing.
+use mathlib.Core.Path.{_≡_}
+use mathlib.Core.List.{List}
+use Prim.Native.Nat.{ℕ, _+_, _*_, _≤_}
+use native.Mathlib.Omega.{arith}
+use lib.ListN.{length}
+use Rattle.words.proofs.Digits.{Below}
+use Rattle.control.specs.Control.{Cell, depth}
+use Rattle.calls.specs.Path.{loaded}
+use Rattle.calls.specs.Calls.{Module, pathOf, accessRefusal, writeBatch}
+use Rattle.call_laws.proofs.Judged.{Accepted, access-accepted, head-of}
+use Rattle.call_laws.proofs.Kept.{Bytes, path-few, batch-bound}
+
+module _ (keys : List ℕ) (n : ℕ) (b : List ℕ) (m : Module) (bytes : Bytes m) (plain : Below 256 b) (open-now : accessRefusal keys n b m ≡ 0)
+    (c : List ℕ) (x : List Cell) (path : pathOf keys n m ≡ loaded c x) where
+  pub read-bound : length x ≤ 2 * depth (m .control)
+  read-bound = path-few keys n b m bytes (access-accepted keys n b m open-now) c x path
+
+  pub write-bound : length (writeBatch (depth (m .control)) keys n b c x) ≤ 2 * depth (m .control) + 2
+  write-bound = batch-bound keys n b m bytes plain (access-accepted keys n b m open-now) c x read-bound
+
+  pub eight : length (writeBatch (depth (m .control)) keys n b c x) ≤ 8
+  eight = omega (arith, write-bound, head-of keys m ((access-accepted keys n b m open-now) .opening) .flat)

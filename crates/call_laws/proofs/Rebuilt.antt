@@ -1,0 +1,198 @@
+-- Recovery keeps the lengths of the buffers, and bytes stay bytes. Assumes nothing.
+use mathlib.Core.Path.{_≡_, refl, sym, ap, _∙_, subst}
+use mathlib.Core.Bool.{Bool, true, false, cond}
+use mathlib.Core.List.{List, [], _∷_, _++_}
+use mathlib.Core.Option.{Option, none, some}
+use Prim.Native.Nat.{ℕ, zero, suc, _+_, _-_, _*_, _/_, _≤_, _<_}
+use native.Mathlib.Nat.{le-refl}
+use native.Mathlib.Omega.{arith}
+use lib.Dec.{eqb, lit<}
+use lib.ListN.{length, take, drop, getD, length-append, length-take, length-drop}
+use Rattle.words.specs.Bytes.{toLe, part}
+use Rattle.words.proofs.Digits.{Below, below-nil, below-append, below-digits, length-digits}
+use Rattle.words.proofs.Puts.{getD-part}
+use Rattle.memory_map.specs.Map.{cells, slots, arrayLength, cacheLength, levelOf, cellOf}
+use Rattle.memory_map.specs.Map.Item.{node}
+use Rattle.counter.specs.Counter.{major, minors, counterBlock}
+use Rattle.counter.proofs.Laws.{length-counterBlock, below-counterBlock}
+use Rattle.tag.specs.Tag.{nodeTag}
+use Rattle.control.specs.Control.{controlLength, depth, count, root, valid, queue, inMap}
+use Rattle.control.proofs.Laws.{Head, valid-parts}
+use Rattle.cache.specs.declared.Found.{Found}
+use Rattle.cache.specs.declared.Found.the-variants.{Nothing, At}
+use Rattle.cache.specs.Cache.{from, withSlot, emptyCache, cellContent, shadowOwners, badSlot, current}
+use Rattle.cache.proofs.Laws.{length-with, below-with, length-empty, below-empty}
+use Rattle.journal.specs.Journal.{Media, Store, storeAll, made, isCut, pendingStores}
+use Rattle.journal.proofs.Each.{Each, each-take}
+use Rattle.journal.proofs.Kept.{Within, within-pending, stores-front}
+use Rattle.answer.specs.declared.Answer.{Answer}
+use Rattle.answer.specs.declared.Answer.the-variants.{Done, Cut, Refused}
+use Rattle.calls.specs.Path.{tagsFrom, childTags}
+use Rattle.calls.specs.Calls.{Module, Called, mediaOf, withMedia, refuse, forwardFrom, total, Rebuilt, rebuilt, damaged, rebuildBlock, rebuildSlot, rebuildBlocks, rebuildNode, rebuildNodes, recoverRoot, recoverRebuilt, recoverShadow, recoverMedia, recoverJudged, recover, recoveryRefusal}
+use Rattle.call_laws.proofs.Judged.{Sized, Opened, recovery-opened, head-of}
+use Rattle.call_laws.proofs.Kept.{Bytes, Kept, kept-same, after-stores, media-formed, array-cells}
+
+-- a cache by its length and its bytes
+record Plain (h : ℕ) (c : List ℕ) : Type 0 where
+  sized : length c ≡ cacheLength h
+  bytes : Below 256 c
+
+with-plain : (h s o d : ℕ) (b c : List ℕ) → s < slots h → d < 256 → length b ≡ 64 → Below 256 b → Plain h c → Plain h (withSlot c s o d b)
+with-plain h s o d b c within flag size plain p =
+    record {
+      sized = length-with h c (p .sized) s within o d b size ∙ p .sized;
+      bytes = below-with h c (p .sized) s within o d b size flag plain (p .bytes);
+    }
+
+empty-plain : (h : ℕ) → Plain h (emptyCache h)
+empty-plain h = record { sized = length-empty h; bytes = below-empty h }
+
+pub tags-length : (keys : List ℕ) (l : ℕ) (f : ℕ → List ℕ) (i n : ℕ) → length (tagsFrom keys l f i n) ≡ 8 * n
+unfolding tagsFrom
+tags-length keys l f i zero = refl
+tags-length keys l f i (suc n) =
+    length-append (toLe 8 (nodeTag keys (f i) l i)) (tagsFrom keys l f (suc i) n)
+    ∙ omega (arith, length-digits 256 8 (nodeTag keys (f i) l i), tags-length keys l f (suc i) n)
+
+pub tags-bytes : (keys : List ℕ) (l : ℕ) (f : ℕ → List ℕ) (i n : ℕ) → Below 256 (tagsFrom keys l f i n)
+unfolding tagsFrom
+tags-bytes keys l f i zero = below-nil (lit< tt)
+tags-bytes keys l f i (suc n) = below-append _ (tagsFrom keys l f (suc i) n) (below-digits 256 8 _ (lit< tt)) (tags-bytes keys l f (suc i) n)
+
+-- ---- the rebuilt cache
+
+PlainIf : ℕ → Rebuilt → Type 0
+PlainIf h damaged = Unit {0}
+PlainIf h (rebuilt c t) = Plain h c
+
+module _ (h : ℕ) (a : List ℕ) where
+  block-plain : (c : List ℕ) (sum s p : ℕ) → s < slots h → Plain h c → PlainIf h (rebuildBlock h a c sum s p)
+  unfolding rebuildBlock PlainIf
+  block-plain c sum s p within plain = go (forwardFrom a (64 * p) (minors (cellContent a (cellOf h (node 0 p)))))
+    where
+      go : (r : Option (List ℕ)) → PlainIf h (elim r as (λ z. Rebuilt) [
+        | none ↦ damaged
+        | some ms ↦ rebuilt (withSlot c s (suc p) 1 (counterBlock (major (cellContent a (cellOf h (node 0 p)))) ms)) (sum + (total ms - total (minors (cellContent a (cellOf h (node 0 p))))))
+      ])
+      go none = tt
+      go (some ms) = with-plain h s (suc p) 1 _ c within (lit< tt) (length-counterBlock _ ms) (below-counterBlock _ ms) plain
+
+  slot-plain : (c : List ℕ) (sum s o : ℕ) → s < slots h → Plain h c → PlainIf h (rebuildSlot h a c sum s o)
+  unfolding rebuildSlot PlainIf
+  slot-plain c sum s zero within plain = plain
+  slot-plain c sum s (suc p) within plain = block-plain c sum s p within plain
+
+  blocks-plain : (s : ℕ) (os c : List ℕ) (sum : ℕ) → s + length os ≤ slots h → Plain h c → PlainIf h (rebuildBlocks h a s os c sum)
+  unfolding rebuildBlocks PlainIf
+  blocks-plain s [] c sum few plain = plain
+  blocks-plain s (o ∷ os) c sum few plain =
+      next s os (omega arith) (λ d t p. blocks-plain (suc s) os d t (omega arith) p) (rebuildSlot h a c sum s o) (slot-plain c sum s o (omega arith) plain)
+    where
+      next : (s : ℕ) (os : List ℕ) → suc s + length os ≤ slots h
+          → ((d : List ℕ) (t : ℕ) → Plain h d → PlainIf h (rebuildBlocks h a (suc s) os d t)) → (r : Rebuilt) → PlainIf h r
+          → PlainIf h (elim r as (λ z. Rebuilt) [ damaged ↦ damaged | rebuilt d t ↦ rebuildBlocks h a (suc s) os d t ])
+      next s os few rec damaged p = tt
+      next s os few rec (rebuilt d t) p = rec d t p
+
+  node-plain : (keys c : List ℕ) (s o : ℕ) → s < slots h → Plain h c → Plain h (rebuildNode h keys a c s o)
+  unfolding rebuildNode
+  node-plain keys c s zero within plain = plain
+  node-plain keys c s (suc i) within plain =
+      with-plain h s (suc i) 1 _ c within (lit< tt) (tags-length keys (levelOf s - 1) (current h a c (levelOf s - 1)) (8 * i) 8)
+      (tags-bytes keys (levelOf s - 1) (current h a c (levelOf s - 1)) (8 * i) 8) plain
+
+  nodes-plain : (keys : List ℕ) (s : ℕ) (os c : List ℕ) → s + length os ≤ slots h → Plain h c → Plain h (rebuildNodes h keys a s os c)
+  unfolding rebuildNodes
+  nodes-plain keys s [] c few plain = plain
+  nodes-plain keys s (o ∷ os) c few plain =
+      nodes-plain keys (suc s) os (rebuildNode h keys a c s o) (omega arith) (node-plain keys c s o (omega arith) plain)
+
+-- ---- the call
+
+from-length : (f : ℕ → ℕ) (s n : ℕ) → length (from f s n) ≡ n
+unfolding from
+from-length f s zero = refl
+from-length f s (suc n) = ap suc (from-length f (suc s) n)
+
+-- a module whose cache is rebuilt
+rebuilt-kept : (m : Module) (c : List ℕ) → Bytes m → length c ≡ length (m .cache) → Below 256 c → Kept m (record { array = m .array; control = m .control; cache = c })
+rebuilt-kept m c b e p = record { array = refl; control = refl; cache = e; bytes = record { array = b .array; control = b .control; cache = p } }
+
+module _ (keys : List ℕ) (k : ℕ) (m : Module) (b : Bytes m) (sized : length (m .cache) ≡ cacheLength (depth (m .control))) where
+  root-kept : (sum : ℕ) (c : List ℕ) → Plain (depth (m .control)) c → Kept m ((recoverRoot keys k m sum c) .after)
+  unfolding recoverRoot
+  root-kept sum c p = go (eqb (nodeTag keys (current (depth (m .control)) (m .array) c (depth (m .control)) 0) (depth (m .control)) 0) (root (m .control)))
+    where
+      go : (t : Bool) → Kept m ((cond {A = Called} t (record { answer = Done k sum; after = record { array = m .array; control = m .control; cache = c } })
+          (record { answer = Refused 29 k 0 0; after = m })) .after)
+      go true = rebuilt-kept m c b (p .sized ∙ sym sized) (p .bytes)
+      go false = kept-same m b
+
+  rebuilt-call : (os : List ℕ) → length os ≡ slots (depth (m .control)) → (r : Rebuilt) → PlainIf (depth (m .control)) r → Kept m ((recoverRebuilt keys k m os r) .after)
+  unfolding recoverRebuilt PlainIf slots
+  rebuilt-call os e damaged p = kept-same m b
+  rebuilt-call os e (rebuilt d sum) p =
+      root-kept sum (rebuildNodes (depth (m .control)) keys (m .array) 4 (drop 4 os) d)
+      (nodes-plain (depth (m .control)) (m .array) keys 4 (drop 4 os) d (omega (arith, length-drop 4 os)) p)
+
+  shadow-call : (os : List ℕ) → length os ≡ slots (depth (m .control)) → (f : Found) → Kept m ((recoverShadow keys k m os f) .after)
+  unfolding recoverShadow slots
+  shadow-call os e (At s) = kept-same m b
+  shadow-call os e Nothing =
+      rebuilt-call os e (rebuildBlocks (depth (m .control)) (m .array) 0 (take 4 os) (emptyCache (depth (m .control))) 0)
+      (blocks-plain (depth (m .control)) (m .array) 0 (take 4 os) (emptyCache (depth (m .control))) 0 (omega (arith, length-take 4 os)) (empty-plain (depth (m .control))))
+
+  media-kept : Kept m ((recoverMedia keys k m) .after)
+  media-kept = shadow-call (shadowOwners (depth (m .control)) (m .array)) (from-length _ 0 (slots (depth (m .control)))) (badSlot (depth (m .control)) (shadowOwners (depth (m .control)) (m .array)))
+
+kept-trans : (m n o : Module) → Kept m n → Kept n o → Kept m o
+kept-trans m n o p q = record { array = q .array ∙ p .array; control = q .control ∙ p .control; cache = q .cache ∙ p .cache; bytes = q .bytes }
+
+-- the depth is in the first bytes
+front-depth : (k l : List ℕ) → part k 0 7 ≡ part l 0 7 → depth k ≡ depth l
+unfolding depth
+front-depth k l e = sym (getD-part k 0 7 5 (lit< tt)) ∙ ap (λ (x : List ℕ). getD x 5 0) e ∙ getD-part l 0 7 5 (lit< tt)
+
+module _ (keys : List ℕ) (m : Module) (b : Bytes m) (ok : Opened keys m) where
+  pending-within : Each (Within (length (m .array) / 72)) (pendingStores (m .control))
+  pending-within =
+      rw (array-cells (depth (m .control)) (length (m .array)) (ok .fits .array))
+      (within-pending (cells (depth (m .control))) (m .control) (ok .record664) (b .control) (head-of keys m ok .few) (valid-parts (ok .right) .1))
+
+  made-module : ℕ → Module
+  made-module a = withMedia (storeAll (mediaOf m) (made a (pendingStores (m .control)))) (m .cache)
+
+  pending-kept : (a : ℕ) → Kept m (made-module a)
+  unfolding made-module
+  pending-kept a = after-stores m b (depth (m .control)) (head-of keys m ok .flat) (ok .fits .array) (ok .record664) a (m .cache) pending-within refl (b .cache)
+
+  made-depth : (a : ℕ) → depth (made-module a .control) ≡ depth (m .control)
+  unfolding made-module
+  made-depth a =
+      front-depth _ (m .control)
+      (stores-front (media-formed m b (depth (m .control)) (head-of keys m ok .flat) (ok .fits .array) (ok .record664)) (each-take a pending-within))
+
+  opened-kept : (a : ℕ) → Kept m ((recoverJudged 0 keys a m) .after)
+  unfolding recoverJudged made-module
+  opened-kept a = go (isCut a (pendingStores (m .control)))
+    where
+      n : Module
+      n = withMedia (storeAll (mediaOf m) (made a (pendingStores (m .control)))) (m .cache)
+
+      go : (t : Bool) → Kept m ((cond {A = Called} t (record { answer = Cut (length (made a (pendingStores (m .control)))); after = n })
+          (recoverMedia keys (length (pendingStores (m .control))) n)) .after)
+      go true = pending-kept a
+      go false =
+          kept-trans m n _ (pending-kept a)
+          (media-kept keys (length (pendingStores (m .control))) n (pending-kept a .bytes) (ok .fits .cache ∙ ap cacheLength (sym (made-depth a))))
+
+refused-kept : (keys : List ℕ) (k a : ℕ) (m : Module) → Bytes m → Kept m ((recoverJudged (suc k) keys a m) .after)
+unfolding recoverJudged
+refused-kept keys k a m b = kept-same m b
+
+pub recover-kept : (keys : List ℕ) (a : ℕ) (m : Module) → Bytes m → Kept m ((recover keys a m) .after)
+recover-kept keys a m b = go (recoveryRefusal keys m) refl
+  where
+    go : (k : ℕ) → recoveryRefusal keys m ≡ k → Kept m ((recoverJudged k keys a m) .after)
+    go zero e = opened-kept keys m b (recovery-opened keys m e) a
+    go (suc k) e = refused-kept keys k a m b

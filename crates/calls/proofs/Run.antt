@@ -1,0 +1,20 @@
+-- One name whose `unfolding` opens every definition that an evaluated example runs. Assumes nothing.
+use Prim.Native.Nat.{ℕ}
+use Rattle.answer.specs.Answer.{codeOf, storesOf, firstOf, secondOf}
+use Rattle.cache.specs.Cache.{owner, dirty, content, withSlot, cellContent, shadowOwner, from, stray, anyOwner, missingTop, orElse, badSlot, flagsFormed, isNothing, formed, holds, current}
+use Rattle.calls.specs.Calls.{judged, formatRefusal, recoveryRefusal, accessRefusal, listRefusal, storing, countsFrom, freshNode, nodeCells, levelCells, freshArray, formatted, format, sideOk, lineText, answered, readLoaded, readPath, readJudged, newBlock, dataCell, writeBatch, writeStores, writtenCache, writeLoaded, writePath, writeJudged, forwardFrom, total, rebuildBlock, rebuildSlot, rebuildBlocks, rebuildNode, rebuildNodes, recoverRoot, recoverRebuilt, recoverShadow, recoverJudged, dirtyPages, occurrences, ListCall, codeForC, bufferForC, moduleForC}
+use Rattle.calls.specs.Path.{evicted, loadNode, loadLevels, renewed, renewPath, tagsFrom}
+use Rattle.chacha20.specs.ChaCha20.{quarter, quarterRound, columnRound, diagonalRound, rounds, addStates, start, serialised, block}
+use Rattle.control.specs.Control.{depth, root, count, newRoot, placeOf, places, queue, inMap, validHead, valid, freshControl}
+use Rattle.counter.specs.Counter.{major, minors, counterBlock, withMinor, forward}
+use Rattle.journal.specs.Journal.{store, storeAll, stages, finish, batchStores, pendingStores}
+use Rattle.memory_map.specs.Map.{pages, lines, nodes, levelStart, slots, shadowStart, cells, arrayLength, cacheLength, cellOf, InMap, slotOf, levelOf, belongs}
+use Rattle.pad.specs.Pad.{pad, xorBytes}
+use Rattle.siphash.specs.SipHash.{initial, lastWord, messageWords, sipRound, compress, compressAll, finalize, sipHash}
+use Rattle.tag.specs.Tag.{nodeInput, nodeTag, dataInput, dataTag}
+use Rattle.words.specs.Bytes.{number, digits, wordsOf, bytesOf}
+use Rattle.words.specs.Rotate.{rotl}
+
+unfoldable pub run : ℕ
+unfolding codeOf storesOf firstOf secondOf owner dirty content withSlot cellContent shadowOwner from stray anyOwner missingTop orElse badSlot flagsFormed isNothing formed holds current judged formatRefusal recoveryRefusal accessRefusal listRefusal storing countsFrom freshNode nodeCells levelCells freshArray formatted format sideOk lineText answered readLoaded readPath readJudged newBlock dataCell writeBatch writeStores writtenCache writeLoaded writePath writeJudged forwardFrom total rebuildBlock rebuildSlot rebuildBlocks rebuildNode rebuildNodes recoverRoot recoverRebuilt recoverShadow recoverJudged dirtyPages occurrences ListCall codeForC bufferForC moduleForC evicted loadNode loadLevels renewed renewPath tagsFrom quarter quarterRound columnRound diagonalRound rounds addStates start serialised block depth root count newRoot placeOf places queue inMap validHead valid freshControl major minors counterBlock withMinor forward store storeAll stages finish batchStores pendingStores pages lines nodes levelStart slots shadowStart cells arrayLength cacheLength cellOf InMap slotOf levelOf belongs pad xorBytes initial lastWord messageWords sipRound compress compressAll finalize sipHash nodeInput nodeTag dataInput dataTag number digits wordsOf bytesOf rotl
+run = 0

@@ -1,0 +1,163 @@
+-- Histories of a module: the events of a list, the book made from it, which lists are allowed, and the history rule.
+-- Assumes nothing.
+use Prim.Native.Nat.{ℕ, zero, suc, _+_, _-_, _*_, _/_, _^_, _<_, _≤_}
+use mathlib.Core.Path.{_≡_}
+use mathlib.Core.Logic.{_⊎_}
+use mathlib.Core.Bool.{Bool, true, false, cond}
+use mathlib.Core.List.{List, [], _∷_, _++_}
+use mathlib.Core.Option.{Option, none, some}
+use lib.Dec.{ltb, eqb}
+use lib.ListN.{length, getD, replicate}
+use Rattle.memory_map.specs.Map.{pageOf, placeOf, lines, nodes, cellOf}
+use Rattle.memory_map.specs.Map.Item.{node}
+use Rattle.counter.specs.Counter.{minor}
+use Rattle.answer.specs.declared.Answer.{Answer}
+use Rattle.answer.specs.declared.Answer.the-variants.{Done, Blank, Cut, Refused}
+use Rattle.answer.specs.Answer.{storesOf}
+use Rattle.control.specs.Control.{root}
+use Rattle.cache.specs.Cache.{cellContent, current}
+use Rattle.calls.specs.Calls.{Module, Called, Reading, refuse, format, read, write, recover, listRefusal, freshNode, freshRoot, countsFrom, total}
+
+-- Events: the calls with their inputs, and a power cut between calls, which leaves any cache of its length
+
+pub data Event : Type 0 where
+  reads : List ℕ → ℕ → ℕ → List ℕ → Event
+  writes : List ℕ → ℕ → List ℕ → ℕ → Event
+  recovers : List ℕ → ℕ → Event
+  lists : List ℕ → Event
+  formats : List ℕ → ℕ → Event
+  powerCut : List ℕ → Event
+
+unfoldable pub listCall : ℕ → Module → Called
+listCall zero m = record { answer = Done 0 0; after = m }
+listCall (suc n) m = refuse m (suc n) 0 0
+
+-- what an event answers and leaves; a power cut between calls is a cut after no store
+unfoldable pub step : Event → Module → Called
+step (reads keys line allowance out) m = (read keys line allowance out m) .called
+step (writes keys line text allowance) m = write keys line text allowance m
+step (recovers keys allowance) m = recover keys allowance m
+step (lists out) m = listCall (listRefusal (m .control) (m .cache) out) m
+step (formats keys h) m = format keys h m
+step (powerCut c) m = record { answer = Cut 0; after = record { array = m .array; control = m .control; cache = c } }
+
+-- The book: for each line a count and a text, and the number of committed writes
+
+pub record Book : Type 0 where
+  pub count : ℕ → ℕ
+  pub text : ℕ → Option (List ℕ)
+  pub writes : ℕ
+
+unfoldable pub emptyBook : Book
+emptyBook = record { count = λ n. 0; text = λ n. none; writes = 0 }
+
+-- f with v at n
+unfoldable pub changed : {A : Type 0} → (ℕ → A) → ℕ → A → ℕ → A
+changed f n v k = cond (eqb k n) v (f k)
+
+-- a write that is done is committed, and so is one cut after more than m stores, where it makes 2m + 3 with stores enough
+unfoldable pub commits : Answer → ℕ → Bool
+commits (Done k t) full = true
+commits (Blank k) full = false
+commits (Cut k) full = ltb ((full - 3) / 2) k
+commits (Refused n k a b) full = false
+
+unfoldable pub entered : Bool → ℕ → List ℕ → Book → Book
+entered false n t b = b
+entered true n t b =
+    record { count = changed (b .count) n (suc (b .count n)); text = changed (b .text) n (some t); writes = suc (b .writes) }
+
+unfoldable pub bookAfter : Event → Module → Book → Book
+bookAfter (reads keys line allowance out) m b = b
+bookAfter (writes keys line text allowance) m b =
+    entered (commits ((write keys line text allowance m) .answer) (storesOf ((write keys line text (2 ^ 64 - 1) m) .answer))) line text b
+bookAfter (recovers keys allowance) m b = b
+bookAfter (lists out) m b = b
+bookAfter (formats keys h) m b = b
+bookAfter (powerCut c) m b = b
+
+-- Which lists are allowed
+
+abbrev pub AreBytes : List ℕ → Type 0
+AreBytes s = (i : ℕ) → getD s i 0 < 256
+
+-- the module's keys, or a refused call that makes no store
+abbrev pub Keyed : List ℕ → List ℕ → Answer → Type 0
+Keyed keys given answer = (given ≡ keys) ⊎ ((n : ℕ) × (a : ℕ) × (b : ℕ) × (answer ≡ Refused n 0 a b))
+
+-- which events may stand next; while a recovery is awaited only recoveries, and further cuts
+unfoldable pub Admitted : List ℕ → Bool → Module → Event → Type 0
+Admitted keys awaited m (reads given line allowance out) =
+    (awaited ≡ false) × Keyed keys given ((read given line allowance out m) .called .answer)
+    × AreBytes given × (line < 2 ^ 64) × (allowance < 2 ^ 64) × AreBytes out
+Admitted keys awaited m (writes given line text allowance) =
+    (awaited ≡ false) × Keyed keys given ((write given line text allowance m) .answer)
+    × AreBytes given × (line < 2 ^ 64) × AreBytes text × (allowance < 2 ^ 64)
+Admitted keys awaited m (recovers given allowance) =
+    Keyed keys given ((recover given allowance m) .answer) × AreBytes given × (allowance < 2 ^ 64)
+Admitted keys awaited m (lists out) = (awaited ≡ false) × AreBytes out
+Admitted keys awaited m (formats given h) = (awaited ≡ false) × AreBytes given × ((format given h m) .answer ≡ Done 0 0 → ⊥)
+Admitted keys awaited m (powerCut c) = (length c ≡ length (m .cache)) × AreBytes c
+
+-- a cut awaits a recovery that is done; where one is awaited no other call is done
+unfoldable pub awaits : Bool → Answer → Bool
+awaits awaited (Cut k) = true
+awaits awaited (Done k t) = false
+awaits awaited (Blank k) = awaited
+awaits awaited (Refused n k a b) = awaited
+
+unfoldable pub Allowed : List ℕ → Bool → Module → List Event → Type 0
+Allowed keys awaited m [] = Unit {0}
+Allowed keys awaited m (e ∷ es) = Admitted keys awaited m e × Allowed keys (awaits awaited ((step e m) .answer)) ((step e m) .after) es
+
+-- the module and the book after a list of events
+unfoldable pub moduleAfter : Module → List Event → Module
+moduleAfter m [] = m
+moduleAfter m (e ∷ es) = moduleAfter ((step e m) .after) es
+
+unfoldable pub bookOf : Module → Book → List Event → Book
+bookOf m b [] = b
+bookOf m b (e ∷ es) = bookOf ((step e m) .after) (bookAfter e m b) es
+
+-- The rule
+
+-- a line's counter, and its minor in the array
+unfoldable pub counter : ℕ → Module → ℕ → ℕ
+counter h m n = minor (current h (m .array) (m .cache) 0 (pageOf n)) (placeOf n)
+
+unfoldable pub storedMinor : ℕ → Module → ℕ → ℕ
+storedMinor h m n = minor (cellContent (m .array) (cellOf h (node 0 (pageOf n)))) (placeOf n)
+
+unfoldable pub NotCut : Answer → Type 0
+NotCut a = (k : ℕ) → a ≡ Cut k → ⊥
+
+-- what a read of a line with that text in the book gives
+unfoldable pub Gives : Option (List ℕ) → Reading → Type 0
+Gives none r = (r .called .answer ≡ Blank (storesOf (r .called .answer))) × (r .output ≡ replicate 64 0)
+Gives (some t) r = (r .called .answer ≡ Done (storesOf (r .called .answer)) 0) × (r .output ≡ t)
+
+-- what holds after a done recovery that tells this sum
+pub record Restored (keys : List ℕ) (h : ℕ) (b : Book) (m : Module) (sum : ℕ) : Type 0 where
+  pub counters : (n : ℕ) → n < lines h → counter h m n ≡ b .count n
+  pub allCounters : total (countsFrom (counter h m) 0 (lines h)) ≡ b .writes
+  pub tree : (l i : ℕ) → l ≤ h → i < nodes h l → current h (m .array) (m .cache) l i ≡ freshNode keys (b .count) l i
+  pub top : root (m .control) ≡ freshRoot keys (b .count) h
+  pub texts : (n allowance : ℕ) (out : List ℕ) → n < lines h → length out ≡ 64
+      → NotCut ((read keys n allowance out m) .called .answer) → Gives (b .text n) (read keys n allowance out m)
+  pub near : (n : ℕ) → n < lines h → (storedMinor h m n ≤ counter h m n) × (counter h m n ≤ storedMinor h m n + 3)
+  pub told : sum ≡ total (countsFrom (λ n. counter h m n - storedMinor h m n) 0 (lines h))
+
+unfoldable pub NotRefused : Answer → Type 0
+NotRefused a = (n k x y : ℕ) → a ≡ Refused n k x y → ⊥
+
+-- The history rule (demand 3): in every allowed list from a done format, a recovery with the same keys is not refused, and one that is done
+-- restores what the book of the list up to it says
+pub HistoryRule : Type 0
+HistoryRule =
+    (keys : List ℕ) (h : ℕ) (given : Module) (es rest : List Event) (allowance : ℕ)
+    → AreBytes keys → (format keys h given) .answer ≡ Done 0 0
+    → Allowed keys false ((format keys h given) .after) (es ++ (recovers keys allowance ∷ rest))
+    → NotRefused ((recover keys allowance (moduleAfter ((format keys h given) .after) es)) .answer)
+    × ((k sum : ℕ) → (recover keys allowance (moduleAfter ((format keys h given) .after) es)) .answer ≡ Done k sum
+    → Restored keys h (bookOf ((format keys h given) .after) emptyBook es)
+    ((recover keys allowance (moduleAfter ((format keys h given) .after) es)) .after) sum)

@@ -1,0 +1,267 @@
+-- Laws of the control record: its fields, the parts of its validity, its places one by one. Assumes nothing.
+use mathlib.Core.Path.{_≡_, refl, sym, ap, ap₂, _∙_, subst}
+use mathlib.Core.Bool.{Bool, true, false, _&&_, and-eq-true-iff}
+use mathlib.Core.List.{List, [], _∷_, _++_}
+use Prim.Native.Nat.{ℕ, zero, suc, _+_, _-_, _*_, _^_, _≤_, _<_}
+use native.Mathlib.Nat.{add-zero, zero-add, add-assoc, suc-add, not-suc-le-zero, le-of-suc-le-suc}
+use native.Mathlib.Omega.{arith}
+use borrow.Author.Tests.{lt-ltb, le-ltb, le-leb, lt-leb, eq-eqb, ne-eqb, leb-true, ltb-true}
+use lib.Dec.{ltb, leb, eqb, lit<, lit≤}
+use lib.ListN.{length, getD, take, drop, length-append}
+use lib.Seq.{take-at, drop-at, take-all, take-take, drop-drop, getD-drop}
+use Rattle.words.specs.Bytes.{number, fromLe, toLe, part, put}
+use Rattle.words.proofs.Digits.{length-digits, number-exact}
+use Rattle.words.proofs.Parts.{part-part}
+use Rattle.words.proofs.Puts.{part-put-before, part-put-in, getD-part}
+use Rattle.memory_map.specs.Map.{cells}
+use Rattle.control.specs.Control.{mark, depth, root, count, newRoot, Cell, placeOf, places, queue, inMap, validHead, valid}
+
+pub depth-at : (k : List ℕ) → depth k ≡ getD k 5 0
+unfolding depth
+depth-at k = refl
+
+pub count-at : (k : List ℕ) → count k ≡ getD k 15 0
+unfolding count
+count-at k = refl
+
+pub root-at : (k : List ℕ) → root k ≡ fromLe (part k 7 8)
+unfolding root
+root-at k = refl
+
+pub new-root-at : (k : List ℕ) → newRoot k ≡ fromLe (part k 16 8)
+unfolding newRoot
+new-root-at k = refl
+
+-- ---- the head
+
+pub mark-bytes : fromLe (part (80 ∷ 73 ∷ 71 ∷ 75 ∷ []) 0 4) ≡ mark
+unfolding number
+mark-bytes = refl
+
+-- the first part that is wrong
+module _ (k : List ℕ) where
+  pub wrong-mark : (fromLe (part k 0 4) ≡ mark → ⊥) → false ≡ validHead k
+  unfolding validHead
+  wrong-mark p = rw (ne-eqb (fromLe (part k 0 4)) mark p)
+
+  module _ (m : fromLe (part k 0 4) ≡ mark) where
+    pub wrong-first : (getD k 4 0 ≡ 1 → ⊥) → false ≡ validHead k
+    unfolding validHead
+    wrong-first p = rw (eq-eqb (fromLe (part k 0 4)) mark m, ne-eqb (getD k 4 0) 1 p)
+
+    module _ (f : getD k 4 0 ≡ 1) where
+      pub wrong-second : (getD k 6 0 ≡ 1 → ⊥) → false ≡ validHead k
+      unfolding validHead
+      wrong-second p = rw (eq-eqb (fromLe (part k 0 4)) mark m, eq-eqb (getD k 4 0) 1 f, ne-eqb (getD k 6 0) 1 p)
+
+      module _ (s : getD k 6 0 ≡ 1) where
+        right-start : validHead k ≡ leb 1 (getD k 5 0) && leb (getD k 5 0) 3 && leb (getD k 15 0) 8
+        unfolding validHead depth count
+        right-start = rw (eq-eqb (fromLe (part k 0 4)) mark m, eq-eqb (getD k 4 0) 1 f, eq-eqb (getD k 6 0) 1 s)
+
+        pub depth-low : getD k 5 0 < 1 → false ≡ validHead k
+        depth-low p = sym (right-start ∙ ap (λ (b : Bool). b && leb (getD k 5 0) 3 && leb (getD k 15 0) 8) (lt-leb 1 (getD k 5 0) p))
+
+        pub depth-high : 3 < getD k 5 0 → false ≡ validHead k
+        depth-high p =
+            sym (right-start ∙ ap₂ (λ (a b : Bool). a && b && leb (getD k 15 0) 8) (le-leb 1 (getD k 5 0) (omega arith)) (lt-leb (getD k 5 0) 3 p))
+
+        pub right-depth : 1 ≤ getD k 5 0 → getD k 5 0 ≤ 3 → leb (getD k 15 0) 8 ≡ validHead k
+        right-depth p q =
+            sym (right-start ∙ ap₂ (λ (a b : Bool). a && b && leb (getD k 15 0) 8) (le-leb 1 (getD k 5 0) p) (le-leb (getD k 5 0) 3 q))
+
+-- what a right head tells
+pub record Head (k : List ℕ) : Type 0 where
+  pub deep : 1 ≤ depth k
+  pub flat : depth k ≤ 3
+  pub few : count k ≤ 8
+
+pub right-head : {k : List ℕ} → validHead k ≡ true → Head k
+unfolding validHead
+right-head {k} e =
+    let start = eqb (fromLe (part k 0 4)) mark && eqb (getD k 4 0) 1 && eqb (getD k 6 0) 1 in
+    let last = and-eq-true-iff (start && leb 1 (depth k) && leb (depth k) 3) (leb (count k) 8) .0 e in
+    let high = and-eq-true-iff (start && leb 1 (depth k)) (leb (depth k) 3) .0 (last .0) in
+    let low = and-eq-true-iff start (leb 1 (depth k)) .0 (high .0) in
+    record {
+      deep = leb-true 1 (depth k) (low .1);
+      flat = leb-true (depth k) 3 (high .1);
+      few = leb-true (count k) 8 (last .1);
+    }
+
+-- ---- places
+
+pub places-suc : (s : List ℕ) (at n : ℕ) → places s at (suc n) ≡ placeOf s at ∷ places s (at + 80) n
+unfolding places
+places-suc s at n = refl
+
+-- the places after the first j: place j, and those after it
+pub places-from : (s : List ℕ) (at n j : ℕ) → j < n
+    → places s (at + 80 * j) (n - j) ≡ placeOf s (at + 80 * j) ∷ places s (at + 80 * (j + 1)) (n - (j + 1))
+places-from s at n j h =
+    let one : n - j ≡ suc (n - (j + 1)) = omega arith in
+    let next : at + 80 * j + 80 ≡ at + 80 * (j + 1) = omega arith in
+    ap (places s (at + 80 * j)) one ∙ places-suc s (at + 80 * j) (n - (j + 1))
+    ∙ ap (λ (i : ℕ). placeOf s (at + 80 * j) ∷ places s i (n - (j + 1))) next
+
+-- the cell numbers from place j on: place j is past the bound, or only those after it count
+module _ (bound : ℕ) (s : List ℕ) (at n j : ℕ) where
+  in-map-from : j < n
+      → inMap bound (places s (at + 80 * j) (n - j)) ≡ ltb (fromLe (part s (at + 80 * j) 8)) bound && inMap bound (places s (at + 80 * (j + 1)) (n - (j + 1)))
+  unfolding inMap placeOf
+  in-map-from h = ap (inMap bound) (places-from s at n j h)
+
+  pub in-map-past : j < n → bound ≤ fromLe (part s (at + 80 * j) 8) → inMap bound (places s (at + 80 * j) (n - j)) ≡ false
+  in-map-past h p =
+      in-map-from h
+      ∙ ap (λ (b : Bool). b && inMap bound (places s (at + 80 * (j + 1)) (n - (j + 1)))) (le-ltb (fromLe (part s (at + 80 * j) 8)) bound p)
+
+  pub in-map-next : j < n → fromLe (part s (at + 80 * j) 8) < bound
+      → inMap bound (places s (at + 80 * j) (n - j)) ≡ inMap bound (places s (at + 80 * (j + 1)) (n - (j + 1)))
+  in-map-next h p =
+      in-map-from h
+      ∙ ap (λ (b : Bool). b && inMap bound (places s (at + 80 * (j + 1)) (n - (j + 1)))) (lt-ltb (fromLe (part s (at + 80 * j) 8)) bound p)
+
+  pub in-map-end : n ≤ j → inMap bound (places s (at + 80 * j) (n - j)) ≡ true
+  unfolding inMap places
+  in-map-end h = let none : n - j ≡ 0 = omega arith in ap (λ (i : ℕ). inMap bound (places s (at + 80 * j) i)) none
+
+-- each of the places is below the bound
+pub in-map-at : (bound : ℕ) (s : List ℕ) (at n j : ℕ) → inMap bound (places s at n) ≡ true → j < n → fromLe (part s (at + 80 * j) 8) < bound
+unfolding inMap places placeOf
+in-map-at bound s at zero j e h = absurd (not-suc-le-zero h)
+in-map-at bound s at (suc n) zero e h =
+    let both = and-eq-true-iff (ltb (fromLe (part s at 8)) bound) (inMap bound (places s (at + 80) n)) .0 e in
+    rw add-zero (ltb-true (fromLe (part s at 8)) bound (both .0))
+in-map-at bound s at (suc n) (suc j) e h =
+    let both = and-eq-true-iff (ltb (fromLe (part s at 8)) bound) (inMap bound (places s (at + 80) n)) .0 e in
+    let next : at + 80 + 80 * j ≡ at + 80 * suc j = omega arith in
+    subst (λ (i : ℕ). fromLe (part s i 8) < bound) next (in-map-at bound s (at + 80) n j (both .1) (le-of-suc-le-suc h))
+
+pub in-map-take : (bound : ℕ) (cs : List Cell) (j : ℕ) → inMap bound cs ≡ true → inMap bound (take j cs) ≡ true
+unfolding inMap
+in-map-take bound cs zero e = refl
+in-map-take bound [] (suc j) e = refl
+in-map-take bound (c ∷ cs) (suc j) e =
+    let both = and-eq-true-iff (ltb (c .number) bound) (inMap bound cs) .0 e in
+    and-eq-true-iff (ltb (c .number) bound) (inMap bound (take j cs)) .1 (both .0, in-map-take bound cs j (both .1))
+
+pub length-places : (s : List ℕ) (at n : ℕ) → length (places s at n) ≡ n
+unfolding places
+length-places s at zero = refl
+length-places s at (suc n) = ap suc (length-places s (at + 80) n)
+
+pub take-places : (s : List ℕ) (at n j : ℕ) → j ≤ n → take j (places s at n) ≡ places s at j
+unfolding places
+take-places s at n zero h = refl
+take-places s at zero (suc j) h = absurd (not-suc-le-zero h)
+take-places s at (suc n) (suc j) h = ap (λ (l : List Cell). placeOf s at ∷ l) (take-places s (at + 80) n j (le-of-suc-le-suc h))
+
+pub places-snoc : (s : List ℕ) (at n : ℕ) → places s at (n + 1) ≡ places s at n ++ (placeOf s (at + 80 * n) ∷ [])
+unfolding places
+places-snoc s at zero = rw add-zero
+places-snoc s at (suc n) =
+    let next : at + 80 + 80 * n ≡ at + 80 * suc n = omega arith in
+    ap (λ (k : ℕ). places s at k) (suc-add n 1)
+    ∙ ap (λ (l : List Cell). placeOf s at ∷ l)
+    (places-snoc s (at + 80) n ∙ ap (λ (i : ℕ). places s (at + 80) n ++ (placeOf s i ∷ [])) next)
+
+-- the places of a part
+places-within : (s : List ℕ) (at m i n : ℕ) → i + 80 * n ≤ m → places (part s at m) i n ≡ places s (at + i) n
+unfolding places placeOf
+places-within s at m i zero h = refl
+places-within s at m i (suc n) h =
+    ap₂ {C = List Cell} (λ (x : ℕ) (l : List Cell). record { number = x; bytes = part (part s at m) (i + 8) 72 } ∷ l)
+    (ap fromLe (part-part s at m i 8 (omega arith))) (places-within s at m (i + 80) n (omega arith))
+    ∙ ap₂ {C = List Cell} (λ (b : List ℕ) (j : ℕ). record { number = fromLe (part s (at + i) 8); bytes = b } ∷ places s j n)
+    (part-part s at m (i + 8) 72 (omega arith) ∙ ap (λ (j : ℕ). part s j 72) (sym (add-assoc at i 8)))
+    (sym (add-assoc at i 80))
+
+-- places that have the same bytes
+pub same-places : (s t : List ℕ) (at i n : ℕ) → part s at (80 * n) ≡ part t i (80 * n) → places s at n ≡ places t i n
+same-places s t at i n e =
+    ap (λ (j : ℕ). places s j n) (sym (add-zero at)) ∙ sym (places-within s at (80 * n) 0 n (omega arith))
+    ∙ ap (λ (l : List ℕ). places l 0 n) e
+    ∙ places-within t i (80 * n) 0 n (omega arith) ∙ ap (λ (j : ℕ). places t j n) (add-zero i)
+
+-- one more place, behind n others
+pub push-place : (s : List ℕ) (n x : ℕ) (bs : List ℕ) → length bs ≡ 72 → 80 * (n + 1) ≤ length s → x < 2 ^ 64
+    → places (put s (80 * n) (toLe 8 x ++ bs)) 0 (n + 1) ≡ places s 0 n ++ (record { number = x; bytes = bs } ∷ [])
+unfolding placeOf
+push-place s n x bs l h w =
+    let word = length-digits 256 8 x in
+    let size = length-append (toLe 8 x) bs in
+    let t = put s (80 * n) (toLe 8 x ++ bs) in
+    let number : part t (80 * n) 8 ≡ toLe 8 x =
+    ap (λ (i : ℕ). part t i 8) (sym (add-zero (80 * n)))
+    ∙ part-put-in s (80 * n) (toLe 8 x ++ bs) (omega arith) 0 8 (omega arith) ∙ take-at (toLe 8 x) bs 8 word in
+    let cell : part t (80 * n + 8) 72 ≡ bs =
+    part-put-in s (80 * n) (toLe 8 x ++ bs) (omega arith) 8 72 (omega arith)
+    ∙ ap (take 72) (drop-at (toLe 8 x) bs 8 word) ∙ take-all 72 bs (omega arith) in
+    places-snoc t 0 n
+    ∙ ap₂ {C = List Cell} (λ (l : List Cell) (i : ℕ). l ++ (placeOf t i ∷ []))
+    (same-places t s 0 0 n (part-put-before s (80 * n) (toLe 8 x ++ bs) (omega arith) 0 (80 * n) (omega arith))) (zero-add (80 * n))
+    ∙ ap₂ {C = List Cell} (λ (y : ℕ) (b : List ℕ). places s 0 n ++ (record { number = y; bytes = b } ∷ []))
+    (ap fromLe number ∙ number-exact 256 8 x (lit< tt) w) cell
+
+-- two records that agree from byte 15 on, in the first 24 bytes, or in the first 7
+module _ (k t : List ℕ) where
+  pub same-count : drop 15 k ≡ drop 15 t → count k ≡ count t
+  unfolding count
+  same-count e = sym (getD-drop 15 k 0 0) ∙ ap (λ (l : List ℕ). getD l 0 0) e ∙ getD-drop 15 t 0 0
+
+  pub same-new-root : drop 15 k ≡ drop 15 t → newRoot k ≡ newRoot t
+  unfolding newRoot
+  same-new-root e =
+      ap (λ (l : List ℕ). fromLe (take 8 l)) (sym (drop-drop 1 15 k) ∙ ap (drop 1) e ∙ drop-drop 1 15 t)
+
+  pub same-queue : drop 15 k ≡ drop 15 t → queue k ≡ queue t
+  unfolding queue
+  same-queue e =
+      ap (places k 24) (same-count e)
+      ∙ same-places k t 24 24 (count t) (ap (take (80 * count t)) (sym (drop-drop 9 15 k) ∙ ap (drop 9) e ∙ drop-drop 9 15 t))
+
+  front : (m : ℕ) → part k 0 m ≡ part t 0 m → (i : ℕ) → i < m → getD k i 0 ≡ getD t i 0
+  front m e i h =
+      ap (λ (j : ℕ). getD k j 0) (sym (zero-add i)) ∙ sym (getD-part k 0 m i h) ∙ ap (λ (l : List ℕ). getD l i 0) e
+      ∙ getD-part t 0 m i h ∙ ap (λ (j : ℕ). getD t j 0) (zero-add i)
+
+  pub front-count : part k 0 24 ≡ part t 0 24 → count k ≡ count t
+  unfolding count
+  front-count e = front 24 e 15 (lit< tt)
+
+  pub front-root : part k 0 24 ≡ part t 0 24 → root k ≡ root t
+  unfolding root
+  front-root e =
+      ap fromLe (sym (part-part k 0 24 7 8 (lit≤ tt)) ∙ ap (λ (l : List ℕ). part l 7 8) e ∙ part-part t 0 24 7 8 (lit≤ tt))
+
+  pub same-depth : part k 0 7 ≡ part t 0 7 → depth k ≡ depth t
+  unfolding depth
+  same-depth e = front 7 e 5 (lit< tt)
+
+  pub same-head : part k 0 7 ≡ part t 0 7 → count t ≤ 8 → validHead k ≡ true → validHead t ≡ true
+  unfolding validHead depth
+  same-head e h v =
+      let start = eqb (fromLe (part k 0 4)) mark && eqb (getD k 4 0) 1 && eqb (getD k 6 0) 1 && leb 1 (depth k) && leb (depth k) 3 in
+      let same : start ≡ eqb (fromLe (part t 0 4)) mark && eqb (getD t 4 0) 1 && eqb (getD t 6 0) 1 && leb 1 (depth t) && leb (depth t) 3 =
+      ap₂ (λ (l : List ℕ) (x : ℕ). eqb (fromLe l) mark && eqb x 1 && eqb (getD k 6 0) 1 && leb 1 (depth k) && leb (depth k) 3)
+      (sym (take-take 4 7 k (lit≤ tt)) ∙ ap (take 4) e ∙ take-take 4 7 t (lit≤ tt)) (front 7 e 4 (lit< tt))
+      ∙ ap₂ (λ (x y : ℕ). eqb (fromLe (part t 0 4)) mark && eqb (getD t 4 0) 1 && eqb x 1 && leb 1 y && leb y 3) (front 7 e 6 (lit< tt)) (front 7 e 5 (lit< tt)) in
+      ap₂ (λ (a b : Bool). a && b) (sym same ∙ and-eq-true-iff start (leb (count k) 8) .0 v .0) (le-leb (count t) 8 h)
+
+-- ---- validity
+
+pub wrong-head : (k : List ℕ) → validHead k ≡ false → false ≡ valid k
+unfolding valid
+wrong-head k e = sym (ap (λ (b : Bool). b && inMap (cells (depth k)) (queue k)) e)
+
+pub valid-cells : (k : List ℕ) → validHead k ≡ true → inMap (cells (depth k)) (places k 24 (count k)) ≡ valid k
+unfolding valid queue
+valid-cells k e = sym (ap (λ (b : Bool). b && inMap (cells (depth k)) (queue k)) e)
+
+-- what validity tells
+pub valid-parts : {k : List ℕ} → valid k ≡ true → Head k × (inMap (cells (depth k)) (queue k) ≡ true)
+unfolding valid
+valid-parts {k} e =
+    let both = and-eq-true-iff (validHead k) (inMap (cells (depth k)) (queue k)) .0 e in
+    (right-head (both .0), both .1)

@@ -1,0 +1,84 @@
+-- The persistent control record (the paper's keep): mark, depth, root, and the queue of a pending batch.
+-- Assumes nothing.
+use Prim.Native.Nat.{ℕ, zero, suc, _+_, _*_}
+use mathlib.Core.Bool.{Bool, true, _&&_}
+use mathlib.Core.List.{List, [], _∷_, _++_}
+use lib.Dec.{ltb, leb, eqb}
+use lib.ListN.{getD, replicate}
+use Rattle.words.specs.Bytes.{fromLe, toLe, part}
+use Rattle.memory_map.specs.Map.{cells}
+
+abbrev pub controlLength : ℕ
+controlLength = 664
+
+-- `PIGK`, as a number
+abbrev pub mark : ℕ
+mark = 0x4b474950
+
+-- The fields, and where they are
+
+abbrev pub depthAt : ℕ
+depthAt = 5
+
+abbrev pub rootAt : ℕ
+rootAt = 7
+
+-- the count, and the new root after it
+abbrev pub countAt : ℕ
+countAt = 15
+
+unfoldable pub depth : List ℕ → ℕ
+depth k = getD k depthAt 0
+
+unfoldable pub root : List ℕ → ℕ
+root k = fromLe (part k rootAt 8)
+
+-- the pending cells, 0 where nothing is pending
+unfoldable pub count : List ℕ → ℕ
+count k = getD k countAt 0
+
+unfoldable pub newRoot : List ℕ → ℕ
+newRoot k = fromLe (part k (countAt + 1) 8)
+
+-- a cell to be stored: its number and its 72 bytes
+pub record Cell : Type 0 where
+  pub number : ℕ
+  pub bytes : List ℕ
+
+-- a place: a cell number, 8 bytes, then the cell
+unfoldable pub placeOf : List ℕ → ℕ → Cell
+placeOf s at = record { number = fromLe (part s at 8); bytes = part s (at + 8) 72 }
+
+-- n places of s, one after the other from index at
+unfoldable pub places : List ℕ → ℕ → ℕ → List Cell
+places s at zero = []
+places s at (suc n) = placeOf s at ∷ places s (at + 80) n
+
+-- where queue place j starts
+abbrev pub placeAt : ℕ → ℕ
+placeAt j = 24 + 80 * j
+
+unfoldable pub queue : List ℕ → List Cell
+queue k = places k (placeAt 0) (count k)
+
+-- Validity: mark, counts and depth are right, and no pending cell number is past the map
+
+-- each cell number is below a bound
+unfoldable pub inMap : ℕ → List Cell → Bool
+inMap n [] = true
+inMap n (c ∷ cs) = ltb (c .number) n && inMap n cs
+
+unfoldable pub validHead : List ℕ → Bool
+validHead k =
+    eqb (fromLe (part k 0 4)) mark && eqb (getD k 4 0) 1 && eqb (getD k 6 0) 1
+    && leb 1 (depth k) && leb (depth k) 3 && leb (count k) 8
+
+unfoldable pub valid : List ℕ → Bool
+valid k = validHead k && inMap (cells (depth k)) (queue k)
+
+abbrev pub pending : List ℕ → Bool
+pending k = ltb 0 (count k)
+
+-- what format leaves
+unfoldable pub freshControl : ℕ → ℕ → List ℕ
+freshControl h r = toLe 4 mark ++ (1 ∷ h ∷ 1 ∷ []) ++ toLe 8 r ++ replicate 649 0

@@ -1,0 +1,6 @@
+pub mod Again
+pub mod Each
+pub mod Kept
+pub mod Laws
+pub mod Queue
+pub mod Steps

@@ -1,0 +1,1 @@
+// Each refusal reached by an evaluated example: they stand in proofs/.
