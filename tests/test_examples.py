@@ -384,7 +384,7 @@ def refusal_examples():
 # ---- every cut of a write with an eviction, a stop-loss store and a data cell, and recovery from each
 
 def cut_examples():
-    writes, early, late = File(), File(), File()
+    writes, early, middle, late = File(), File(), File(), File()
     module = model.format_call(KEYS, 1, model.zero_module(1))[1]
     for line, byte in [(256, 1), (256, 2), (256, 3), (0, 4)]:
         module = model.write_call(KEYS, line, bytes([byte]) * 64, UNLIMITED, module)[1]
@@ -394,7 +394,7 @@ def cut_examples():
     for allowance in range(full + 1):
         answer, after = writes.write("cut%d" % allowance, keys(), number(256), fill(64, 5), number(allowance), start, "after%d" % allowance)
         assert (answer.kind, answer.stores) == (("cut", allowance) if allowance < full else ("done", full))
-        recoveries = early if allowance <= 7 else late
+        recoveries = early if allowance < 5 else middle if allowance < 9 else late
         before = recoveries.borrow("after%d" % allowance, after.value)
         answer, _ = recoveries.recover("recover%d" % allowance, keys(), number(UNLIMITED), before.lost(), "rebuilt%d" % allowance)
         assert answer.kind == "done"
@@ -403,7 +403,7 @@ def cut_examples():
         "crates/cut_examples/proofs/Cuts.antt": theorems_file(
             writes, "cut_examples", "A write with an eviction, a stop-loss store and a data cell, under each allowance."),
     }
-    for recoveries, crate in ((early, "recovery_early"), (late, "recovery_late")):
+    for recoveries, crate in ((early, "recovery_early"), (middle, "recovery_middle"), (late, "recovery_late")):
         made["crates/%s/specs/States.antt" % crate] = states_file(recoveries, "What recovery makes of cuts of one write.")
         made["crates/%s/proofs/Recoveries.antt" % crate] = theorems_file(
             recoveries, crate, "Recovery from cuts of the write of the cut examples, with a zero cache.",

@@ -5,7 +5,7 @@ ghost use mathlib.Core.List.{_∷_, map};
 ghost use Prim.Native.Nat.{min, _*_, _/_, _≤_};
 ghost use lib.ListN.{length};
 ghost use Rattle.words.specs.Bytes.{toLe, put};
-ghost use Rattle.control.specs.Control.{controlLength, placeAt, places, queue, inMap, count};
+ghost use Rattle.control.specs.Control.{controlLength, placeAt, places, queue, inMap, count, countAt};
 ghost use Rattle.journal.specs.Journal.{media, storeAll, batchStores, pendingStores, Stored};
 ghost use Rattle.journal.specs.Journal.Store.{cell};
 use words::copy;
@@ -41,7 +41,7 @@ fn store_cells(array: &mut [u8], control: &[u8], n: usize)
 // Stores the count with the new root.
 fn commit(control: &mut [u8], n: usize, root: u64)
     requires { ⌜ (length (now control) ≡ controlLength) × (n ≤ 8) ⌝ }
-    ensures { λ _. ⌜ now (control .exit) ≡ put (now (control .entry)) 15 (n ∷ toLe 8 root) ⌝ }
+    ensures { λ _. ⌜ now (control .exit) ≡ put (now (control .entry)) countAt (n ∷ toLe 8 root) ⌝ }
 {
     control[control::COUNT] = n as u8;
     store64(control, control::NEW_ROOT, root);

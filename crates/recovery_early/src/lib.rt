@@ -1,1 +1,1 @@
-// Recovery from the first eight cuts of a write, evaluated: it stands in proofs/.
+// Recovery from each cut of a write before its commit, evaluated: it stands in proofs/.

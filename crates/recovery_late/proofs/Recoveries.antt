@@ -9,13 +9,8 @@ use Rattle.calls.specs.Calls.{Module, read, write, recover, format, listRefusal
 use Rattle.examples.specs.Bench.{unlimited}
 use Rattle.calls.proofs.Run.{run}
 use Rattle.calls.proofs.Sparse.{sparse, upTo}
-use Rattle.cut_examples.specs.States.{after8, after9, after10, after11}
-use Rattle.recovery_late.specs.States.{rebuilt8, rebuilt9, rebuilt10, rebuilt11}
-
-recover8 :
-    recover (upTo 48 0) unlimited (record { array = after8 .array; control = after8 .control; cache = replicate 438 0 }) ≡ record { answer = Done 6 0; after = rebuilt8 }
-unfolding run sparse upTo rebuilt8 after8
-recover8 = refl
+use Rattle.cut_examples.specs.States.{after9, after10, after11}
+use Rattle.recovery_late.specs.States.{rebuilt9, rebuilt10, rebuilt11}
 
 recover9 :
     recover (upTo 48 0) unlimited (record { array = after9 .array; control = after9 .control; cache = replicate 438 0 }) ≡ record { answer = Done 6 0; after = rebuilt9 }

@@ -1,1 +1,1 @@
-// Recovery from the last four cuts of a write, evaluated: it stands in proofs/.
+// Recovery from the last cuts of a write, with its cells stored, evaluated: it stands in proofs/.

@@ -1,0 +1,33 @@
+-- Written by tests/test_examples.py. Recovery from cuts of the write of the cut examples, with a zero cache. Assumes nothing.
+use mathlib.Core.Path.{_≡_, refl}
+use mathlib.Core.List.{List, [], _∷_}
+use Prim.Native.Nat.{ℕ}
+use lib.ListN.{replicate, drop}
+use Rattle.words.specs.Bytes.{put}
+use Rattle.answer.specs.declared.Answer.the-variants.{Done, Blank, Cut, Refused}
+use Rattle.calls.specs.Calls.{Module, read, write, recover, format, listRefusal}
+use Rattle.examples.specs.Bench.{unlimited}
+use Rattle.calls.proofs.Run.{run}
+use Rattle.calls.proofs.Sparse.{sparse, upTo}
+use Rattle.cut_examples.specs.States.{after5, after6, after7, after8}
+use Rattle.recovery_middle.specs.States.{rebuilt5, rebuilt6, rebuilt7, rebuilt8}
+
+recover5 :
+    recover (upTo 48 0) unlimited (record { array = after5 .array; control = after5 .control; cache = replicate 438 0 }) ≡ record { answer = Done 6 0; after = rebuilt5 }
+unfolding run sparse upTo rebuilt5 after5
+recover5 = refl
+
+recover6 :
+    recover (upTo 48 0) unlimited (record { array = after6 .array; control = after6 .control; cache = replicate 438 0 }) ≡ record { answer = Done 6 0; after = rebuilt6 }
+unfolding run sparse upTo rebuilt6 after6
+recover6 = refl
+
+recover7 :
+    recover (upTo 48 0) unlimited (record { array = after7 .array; control = after7 .control; cache = replicate 438 0 }) ≡ record { answer = Done 6 0; after = rebuilt7 }
+unfolding run sparse upTo rebuilt7 after7
+recover7 = refl
+
+recover8 :
+    recover (upTo 48 0) unlimited (record { array = after8 .array; control = after8 .control; cache = replicate 438 0 }) ≡ record { answer = Done 6 0; after = rebuilt8 }
+unfolding run sparse upTo rebuilt8 after8
+recover8 = refl
