@@ -558,38 +558,46 @@ def recover_call(keys, allowance, module):
     fault = owners_fault(h, owners)
     if fault is not None:
         return refused(27, fault, stores=len(stores)), module
-
-    found = [EMPTY_SLOT] * slots(h)
-    total = 0
-    for slot in range(COUNTER_SLOTS):
-        if owners[slot] == 0:
-            continue
-        page = owners[slot] - 1
-        block = array_node(h, module.array, 0, page)
-        minors = list(minors_of(block))
-        for place in range(64):
-            phase = cell_at(module.array, 64 * page + place)[CONTENT]
-            forward = brought_forward(minors[place], phase)
-            if forward is None:
-                return refused(28, stores=len(stores)), module
-            total += forward - minors[place]
-            minors[place] = forward
-        found[slot] = Slot(page + 1, 1, counter_block(major_of(block), minors))
-
-    for slot in range(COUNTER_SLOTS, slots(h)):
-        if owners[slot] == 0:
-            continue
-        level, index = level_of_slot(slot), owners[slot] - 1
-        children = [node_of(h, module.array, found, level - 1, 8 * index + i)
-                    for i in range(8)]
-        node = node_over(keys, level - 1, 8 * index, children)
-        found[slot] = Slot(index + 1, 1, node)
-
+    rebuilt = rebuilt_slots(keys, h, module.array, owners)
+    if rebuilt is None:
+        return refused(28, stores=len(stores)), module
+    found, total = rebuilt
     top = node_of(h, module.array, found, h, 0)
     if node_tag(keys, top, h, 0) != root_of(module.control):
         return refused(29, stores=len(stores)), module
     return (done(len(stores), total),
             module._replace(cache=cache_of_slots(found)))
+
+
+def rebuilt_slots(keys, h, array, owners):
+    """The slots of the given owners, each level from the one below, and the
+    sum by which minors were brought forward; None if one cannot be."""
+    found = [EMPTY_SLOT] * slots(h)
+    total = 0
+    for slot, owner in enumerate(owners):
+        if owner == 0:
+            continue
+        level, index = level_of_slot(slot), owner - 1
+        if level == 0:
+            minors = minors_forward(h, array, index)
+            if None in minors:
+                return None
+            block = array_node(h, array, 0, index)
+            content = counter_block(major_of(block), minors)
+            total += sum(minors) - sum(minors_of(block))
+        else:
+            children = [node_of(h, array, found, level - 1, 8 * index + i)
+                        for i in range(8)]
+            content = node_over(keys, level - 1, 8 * index, children)
+        found[slot] = Slot(owner, 1, content)
+    return found, total
+
+
+def minors_forward(h, array, page):
+    """A page's minors in the array, brought forward by its data cells."""
+    minors = minors_of(array_node(h, array, 0, page))
+    return [brought_forward(minor, cell_at(array, 64 * page + place)[CONTENT])
+            for place, minor in enumerate(minors)]
 
 
 def node_of(h, array, found, level, index):
@@ -667,6 +675,32 @@ def zero_module(h):
                   bytes(cache_length(h)))
 
 
+def run_command(keys, command, numbers, allowance, module):
+    """Make a command's call; gives (answer, module, value to print)."""
+    if command == "w":
+        line, byte = numbers
+        answer, module = write_call(keys, line, bytes([byte]) * CONTENT,
+                                    allowance, module)
+        return answer, module, None
+    if command == "r":
+        answer, module, output = read_call(keys, numbers[0], allowance,
+                                           bytes(CONTENT), module)
+        return answer, module, output[0]
+    answer, module = recover_call(keys, allowance, module)
+    return answer, module, answer.first
+
+
+def answer_text(command, numbers, answer, value):
+    words = [command] + numbers[:1]
+    if answer.kind == "refused":
+        words += ["refused", answer.number]
+    else:
+        words += [answer.kind, answer.stores]
+        if answer.kind != "cut" and value is not None:
+            words.append(value)
+    return " ".join(str(word) for word in words)
+
+
 def bench(lines_of_text):
     keys = bytes(range(KEYS_LENGTH))
     _, module = format_call(keys, 1, zero_module(1))
@@ -681,32 +715,12 @@ def bench(lines_of_text):
         if command == "k":
             allowance = numbers[0]
             continue
-        words = [command]
-        extra = []
-        if command == "w":
-            line, byte = numbers
-            words.append(str(line))
-            answer, module = write_call(keys, line, bytes([byte]) * CONTENT,
-                                        allowance, module)
-        elif command == "r":
-            line = numbers[0]
-            words.append(str(line))
-            answer, module, output = read_call(keys, line, allowance,
-                                               bytes(CONTENT), module)
-            if answer.kind in ("done", "blank"):
-                extra = [str(output[0])]
-        else:
-            answer, module = recover_call(keys, allowance, module)
-            if answer.kind == "done":
-                extra = [str(answer.first)]
+        answer, module, value = run_command(keys, command, numbers, allowance,
+                                            module)
         allowance = UNLIMITED
         if answer.kind == "cut":
             module = module._replace(cache=bytes(len(module.cache)))
-        if answer.kind == "refused":
-            words += ["refused", str(answer.number)]
-        else:
-            words += [answer.kind, str(answer.stores)] + extra
-        printed.append(" ".join(words))
+        printed.append(answer_text(command, numbers, answer, value))
     return printed
 
 

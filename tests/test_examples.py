@@ -15,6 +15,17 @@ TOP = os.path.dirname(os.path.dirname(os.path.abspath(__file__)))
 KEYS = bytes(range(48))
 
 
+def written(module, *texts):
+    """The module after writes of lines, each with one byte all over."""
+    for line, byte in texts:
+        module = model.write_call(KEYS, line, bytes([byte]) * 64, UNLIMITED, module)[1]
+    return module
+
+
+def formatted(depth):
+    return model.format_call(KEYS, depth, model.zero_module(depth))[1]
+
+
 # ---- terms: each value with the antt text that denotes it
 
 class Term:
@@ -54,8 +65,16 @@ def runs(data):
     return found
 
 
+def octets(data):
+    return " ∷ ".join([str(b) for b in data] + ["[]"])
+
+
+def words_of(data):
+    return [int.from_bytes(data[at:at + 8], "little") for at in range(0, len(data), 8)]
+
+
 def literal(data):
-    parts = ["(%d, %s)" % (zeros, " ∷ ".join([str(b) for b in some] + ["[]"])) for zeros, some in runs(data)]
+    parts = ["(%d, %s)" % (zeros, octets(some)) for zeros, some in runs(data)]
     return "sparse (%s)" % " ∷ ".join(parts + ["[]"])
 
 
@@ -84,7 +103,7 @@ class Buffers:
 
     def put(self, field, at, *data):
         old = getattr(self.value, field)
-        text = "put (%s) %d (%s)" % (self.part(field), at, " ∷ ".join([str(b) for b in data] + ["[]"]))
+        text = "put (%s) %d (%s)" % (self.part(field), at, octets(data))
         return self.with_part(field, text, old[:at] + bytes(data) + old[at + len(data):])
 
     def short(self, field):
@@ -119,8 +138,8 @@ class File:
         self.modules.append((name, value))
         return Buffers(name, value)
 
-    def theorem(self, name, statement):
-        self.theorems.append((name.replace("_", "-"), statement))
+    def theorem(self, name, statement, proof="refl"):
+        self.theorems.append((name.replace("_", "-"), statement, proof))
 
     def called(self, name, call, answer, before, after_name, after):
         """The call answers so and leaves the module after_name, or before where it changes nothing."""
@@ -155,10 +174,15 @@ class File:
             k.text, line.text, allowance.text, out.text, before.text, answer_text(answer), left, shown))
         return answer, Buffers(after_name, after) if after_name else before
 
-    def list_refused(self, name, out, before):
+    def listed(self, name, out, before):
         answer, got = model.dirty_list_call(out.value, before.value.control, before.value.cache)
-        assert got == out.value
-        self.theorem(name, "listRefusal (%s) (%s) %s ≡ %d" % (before.part("control"), before.part("cache"), out.text, answer.number))
+        left, proof = out.text, "(refl, refl)"
+        if answer.kind == "done":
+            left = "(%s)" % octets(got)
+            pages = [page for page in words_of(got) if page < 2 ** 64 - 1]
+            proof = "(refl, record { sequence = %s; each = λ x. refl; bytes = refl })" % octets(pages)
+        self.theorem(name, "ListCall (%s) (%s) %s (%s) %s" % (
+            before.part("control"), before.part("cache"), out.text, answer_text(answer), left), proof)
         return answer
 
 
@@ -168,7 +192,7 @@ use Prim.Native.Nat.{ℕ}
 use lib.ListN.{replicate, drop}
 use Rattle.words.specs.Bytes.{put}
 use Rattle.answer.specs.declared.Answer.the-variants.{Done, Blank, Cut, Refused}
-use Rattle.calls.specs.Calls.{Module, read, write, recover, format, listRefusal}
+use Rattle.calls.specs.Calls.{Module, read, write, recover, format}
 use Rattle.examples.specs.Bench.{unlimited}
 use Rattle.calls.proofs.Run.{run}
 use Rattle.calls.proofs.Sparse.{sparse, upTo}
@@ -195,11 +219,11 @@ def theorems_file(made, crate, what, uses="", mark=""):
 
 def theorems_text(made, mark=""):
     names, text = [name for name, _ in made.modules] + made.lent, ""
-    for name, statement in made.theorems:
+    for name, statement, proof in made.theorems:
         words = statement.replace("(", " ").replace(")", " ").split()
         opened = [n for n in ["powered"] + names if n in words]
-        text += "\n%s%s :\n    %s\nunfolding run sparse upTo%s\n%s = refl\n" % (
-            mark, name, statement, "".join(" " + n for n in opened), name)
+        text += "\n%s%s :\n    %s\nunfolding run sparse upTo%s\n%s = %s\n" % (
+            mark, name, statement, "".join(" " + n for n in opened), name, proof)
     return text
 
 
@@ -209,37 +233,25 @@ COMMANDS = ["w 0 17", "w 0 18", "r 0", "k 2", "w 0 19", "p", "r 0", "k 4", "w 0 
             "r 0", "r 64"]
 
 
-def bench_listing():
-    made = File()
-    _, now = made.format("formatted", keys(), number(1), made.name("given", model.zero_module(1)), "m0")
-    allowance, links, shown, count = UNLIMITED, [], [], 0
-    for command in COMMANDS:
-        words = command.split()
-        if words[0] == "k":
-            allowance = int(words[1])
-            links.append(("k", words, None, None, None, None, None))
-            continue
-        count += 1
-        before, step, after = now, "step%d" % count, "m%d" % count
-        if words[0] == "w":
-            answer, now = made.write(step, keys(), number(int(words[1])), fill(64, int(words[2])), number(allowance), before, after)
-            shown.append("wrote %s (%s)" % (words[1], answer_text(answer)))
-        elif words[0] == "r":
-            answer, now = made.read(step, keys(), number(int(words[1])), number(allowance), fill(64, 0), before, after)
-            got = model.read_call(KEYS, int(words[1]), allowance, bytes(64), before.value)[2]
-            shown.append("gave %s (%s) %d" % (words[1], answer_text(answer), got[0]))
-        else:
-            answer, now = made.recover(step, keys(), number(allowance), before, after)
-            shown.append("recovered (%s)" % answer_text(answer))
-        lost = None
-        if answer.kind == "cut":
-            lost = made.name(after + "x", now.lost().value)
-            made.theorem("lost%d" % count, "powered (record { answer = %s; after = %s }) ≡ %s" % (answer_text(answer), now.text, lost.text))
-        links.append((words[0], words, step, answer, before, now, lost))
-        if lost:
-            now = lost
-        allowance = UNLIMITED
-    text = MADE % "The bench listing of the paper, whole: what the definitions compute for its commands." + """use mathlib.Core.Path.{_≡_, refl, _∙_, ap}
+def bench_step(made, words, allowance, before, count):
+    """What one command does, and what power leaves where it cuts the call."""
+    step, after = "step%d" % count, "m%d" % count
+    if words[0] == "w":
+        answer, now = made.write(step, keys(), number(int(words[1])), fill(64, int(words[2])), number(allowance), before, after)
+    elif words[0] == "r":
+        answer, now = made.read(step, keys(), number(int(words[1])), number(allowance), fill(64, 0), before, after)
+    else:
+        answer, now = made.recover(step, keys(), number(allowance), before, after)
+    if answer.kind != "cut":
+        return now, "link-%s %s %s (kept-%s _ _%s)" % (
+            words[0], LINK_ARGUMENTS[words[0]], step, answer.kind, " _" if answer.kind == "done" else "")
+    lost = made.name(after + "x", now.lost().value)
+    made.theorem("lost%d" % count, "powered (record { answer = %s; after = %s }) ≡ %s" % (answer_text(answer), now.text, lost.text))
+    return lost, "link-%s %s %s lost%d" % (words[0], LINK_ARGUMENTS[words[0]], step, count)
+
+
+def listing_text(made, links):
+    return MADE % "The bench listing of the paper, whole: what the definitions compute for its commands." + """use mathlib.Core.Path.{_≡_, refl, _∙_, ap}
 use mathlib.Core.List.{List, [], _∷_}
 use Rattle.calls.specs.Calls.{Module, Called}
 use Rattle.examples.specs.Bench.{unlimited, bench, benchRun, commands, printed}
@@ -251,145 +263,178 @@ use Rattle.bench_listing.proofs.Steps.{%s}
 run : bench m0 unlimited commands ≡ printed
 unfolding commands printed
 run =
-""" % ", ".join([name for name, _ in made.theorems])
-    for kind, words, step, answer, before, after, lost in links:
-        if kind == "k":
-            text += "    link-k _ _ _ _ _ ("
-        else:
-            kept = "lost%s" % step[4:] if lost else "(kept-%s _ _%s)" % (answer.kind, " _" if answer.kind == "done" else "")
-            text += "    link-%s %s %s %s (" % (kind, " ".join("_" * LINK_ARGUMENTS[kind]), step, kept)
-        text += "\n"
-    text += "    link-end _ _" + ")" * len(links) + """
+%s    link-end _ _%s
 
 listing : benchRun given commands ≡ printed
 listing = ap (λ (c : Called). bench (c .after) unlimited commands) formatted ∙ run
-"""
+""" % (", ".join([name for name, _, _ in made.theorems]), "".join("    %s (\n" % link for link in links), ")" * len(links))
+
+
+def bench_listing():
+    made = File()
+    _, now = made.format("formatted", keys(), number(1), made.name("given", model.zero_module(1)), "m0")
+    allowance, links, count = UNLIMITED, [], 0
+    for command in COMMANDS:
+        words = command.split()
+        if words[0] == "k":
+            allowance = int(words[1])
+            links.append("link-k _ _ _ _ _")
+            continue
+        count += 1
+        now, link = bench_step(made, words, allowance, now, count)
+        links.append(link)
+        allowance = UNLIMITED
     return {
         "crates/bench_listing/specs/States.antt": states_file(made, "The modules between the commands of the bench listing."),
         "crates/bench_listing/proofs/Steps.antt": theorems_file(
             made, "bench_listing", "What each command of the bench listing does.", "use Rattle.examples.specs.Bench.{powered}\n", "pub "),
-        "crates/bench_listing/proofs/Listing.antt": text,
+        "crates/bench_listing/proofs/Listing.antt": listing_text(made, links),
     }
 
 
-LINK_ARGUMENTS = {"w": 9, "r": 9, "p": 7}
+LINK_ARGUMENTS = {"w": "_ _ _ _ _ _ _ _ _", "r": "_ _ _ _ _ _ _ _ _", "p": "_ _ _ _ _ _ _"}
 
 
 # ---- refusals: each number, with its place, and pairs of faults that show the sequence
 
-def after_writes(made):
-    """Depth 1: line 0 written once."""
-    module = model.format_call(KEYS, 1, model.zero_module(1))[1]
-    fresh = made.name("fresh1", module)
-    module = model.write_call(KEYS, 0, bytes([17]) * 64, UNLIMITED, module)[1]
-    return fresh, made.name("wrote0", module)
+class Refusals(File):
+    """Calls that are refused, each with the number and the places that are expected."""
+
+    def __init__(self):
+        super().__init__()
+        module = formatted(1)
+        self.fresh = self.borrow("m0", module)
+        self.wrote = self.borrow("m1", written(module, (0, 17)))
+        self.wrote65 = self.name("wrote65", written(module, (65, 17)))
+        self.pending = self.fresh.put("control", 15, 1)
+        self.seen = set()
+
+
+    def expect(self, want, answer, first=0, second=0, stores=0):
+        got = (answer.number, answer.first, answer.second, answer.stores)
+        assert got == (want, first, second, stores), (want, got)
+        self.seen.add(want)
+
+    def format_(self, name, want, keys_, depth, before):
+        self.expect(want, self.format("format_%s" % name, keys_, number(depth), before)[0])
+
+    def read_(self, name, want, keys_, line, output, before, *places):
+        self.expect(want, self.read("read_%s" % name, keys_, number(line), ANY, output, before)[0], *places)
+
+    def write_(self, name, want, keys_, line, text, before, *places):
+        self.expect(want, self.write("write_%s" % name, keys_, number(line), text, ANY, before)[0], *places)
+
+    def recover_(self, name, want, keys_, before, *places, **more):
+        self.expect(want, self.recover("recover_%s" % name, keys_, ANY, before, **more)[0], *places)
+
+    def list_(self, name, want, output, before):
+        self.expect(want, self.listed("list_%s" % name, output, before))
+
+
+ANY, K, OUT, SHADOW = number(UNLIMITED), keys(), fill(64, 9), 72 * 521
+
+
+def single_faults(r):
+    r.format_("depth_0", 1, K, 0, r.fresh)
+    r.format_("depth_4", 1, K, 4, r.fresh)
+    r.format_("other_depth", 4, K, 2, r.fresh)
+    r.read_("keys", 2, keys(47), 0, OUT, r.fresh)
+    r.read_("control_length", 3, K, 0, OUT, r.fresh.short("control"))
+    r.read_("array_length", 4, K, 0, OUT, r.fresh.short("array"))
+    r.read_("cache_length", 5, K, 0, OUT, r.fresh.short("cache"))
+    r.read_("line", 6, K, 512, OUT, r.fresh)
+    r.read_("output", 7, K, 0, fill(63, 9), r.fresh)
+    r.write_("text", 7, K, 0, fill(65, 9), r.fresh)
+    r.list_("output", 7, fill(31, 9), r.fresh)
+    for name, at, byte in [("mark", 0, 81), ("first_count", 4, 2), ("depth_none", 5, 0), ("depth_4", 5, 4), ("second_count", 6, 0), ("queue_count", 15, 9)]:
+        r.read_(name, 21, K, 0, OUT, r.fresh.put("control", at, byte))
+    past = r.fresh.put("control", 15, 1).put("control", 24, 15, 2)
+    r.recover_("cell_past_map", 21, K, past)
+    r.read_("pending", 22, K, 0, OUT, r.pending)
+    r.read_("dirty_2", 23, K, 0, OUT, r.wrote.put("cache", 8, 2))
+    r.read_("empty_dirty", 23, K, 0, OUT, r.fresh.put("cache", 8, 1))
+    r.read_("stray_owner", 23, K, 0, OUT, r.wrote.put("cache", 0, 2))
+    r.read_("top_missing", 23, K, 0, OUT, r.wrote.put("cache", 292, 0).put("cache", 300, 0))
+    r.read_("top_tag", 24, K, 0, OUT, r.fresh.put("array", 72 * 520, 1), 1, 0)
+    r.read_("block_tag", 24, K, 64, OUT, r.fresh.put("array", 72 * 513 + 9, 1), 0, 1)
+    r.read_("phase", 25, K, 65, OUT, r.wrote65.put("array", 72 * 65 + 64, 2), 65)
+    r.read_("data_tag", 25, K, 65, OUT, r.wrote65.put("array", 72 * 65 + 3, 0), 65)
+    r.write_("last_minor", 26, K, 0, OUT, r.wrote.put("cache", 17, 127))
+    r.recover_("shadow_stray", 27, K, r.fresh.put("array", SHADOW + 72, 1), 1)
+    r.recover_("shadow_top", 27, K, r.wrote.put("array", SHADOW + 72 * 4, 0), 4)
+    r.recover_("phase_4", 28, K, r.wrote.put("array", 64, 4))
+    r.recover_("past_127", 28, K, r.wrote.put("array", 72 * 512 + 8, 126))
+    r.recover_("root", 29, K, r.wrote.put("control", 7, 1))
+
+
+def two_faults(r):
+    r.format_("depth_and_keys", 1, keys(47), 0, r.fresh)
+    r.format_("keys_and_control", 2, keys(47), 1, r.fresh.short("control"))
+    r.format_("control_and_array", 3, K, 1, r.fresh.short("control").short("array"))
+    r.format_("array_and_cache", 4, K, 1, r.fresh.short("array").short("cache"))
+    r.read_("output_and_line", 7, K, 512, fill(63, 9), r.fresh)
+    r.read_("control_and_array", 21, K, 0, OUT, r.fresh.put("control", 0, 0).short("array"))
+    r.read_("pending_and_cache", 22, K, 0, OUT, r.pending.put("cache", 8, 1))
+    r.read_("cache_and_tag", 23, K, 0, OUT, r.fresh.put("cache", 8, 1).put("array", 72 * 520, 1))
+    r.write_("keys_and_control", 2, keys(49), 0, OUT, r.fresh.short("control"))
+    r.write_("text_and_line", 7, K, 512, fill(63, 9), r.fresh)
+    r.write_("line_and_pending", 6, K, 512, OUT, r.pending)
+    r.write_("cache_and_minor", 23, K, 0, OUT, r.wrote.put("cache", 17, 127).put("cache", 8, 2))
+    r.recover_("keys_and_control", 2, keys(0), r.fresh.short("control"))
+    r.recover_("control_and_cache", 21, K, r.fresh.put("control", 4, 0).short("cache"))
+    r.recover_("array_and_cache", 4, K, r.fresh.short("array").short("cache"))
+    r.recover_("shadow_and_phase", 27, K, r.wrote.put("array", SHADOW + 72, 1).put("array", 64, 4), 1)
+    r.recover_("phase_and_root", 28, K, r.wrote.put("array", 64, 4).put("control", 7, 1))
+    r.list_("control_and_cache", 3, fill(32, 9), r.fresh.short("control").short("cache"))
+    r.list_("mark_and_cache", 21, fill(32, 9), r.fresh.put("control", 0, 0).short("cache"))
+    r.list_("cache_and_output", 5, fill(31, 9), r.fresh.short("cache"))
+    r.list_("output_and_formed", 7, fill(31, 9), r.fresh.put("cache", 8, 1))
+    r.list_("formed", 23, fill(32, 9), r.fresh.put("cache", 8, 1))
+
+
+def told_to_c(r):
+    """The list of a module with two dirty counter slots, and what C is told of some answers."""
+    module = model.read_call(KEYS, 64, UNLIMITED, bytes(64), r.wrote.value)[1]
+    assert r.listed("list_done", fill(32, 9), r.name("listed", written(module, (128, 18)))).kind == "done"
+    for length in (23, 24):
+        for answer in (model.Answer("done", 0, 5, 3, 0), model.Answer("refused", 24, 0, 1, 2)):
+            before = fill(length, 7)
+            code, after = model.for_c(before.value, answer)
+            name = "%s_%d" % (answer.kind, length)
+            r.theorem("code_%s" % name, "codeForC %s (%s) ≡ %d" % (before.text, answer_text(answer), code))
+            r.theorem("numbers_%s" % name, "bufferForC %s (%s) ≡ %s" % (before.text, answer_text(answer), octets(after)))
+        left = OUT if code == 107 else fill(64, 1)
+        r.theorem("left_%d" % length, "leftForC {A = List ℕ} %s %s %s ≡ %s" % (before.text, OUT.text, fill(64, 1).text, left.text))
 
 
 def refusal_examples():
-    made = File()
-    fresh, wrote = after_writes(made)
-    k, out, any_ = keys(), fill(64, 9), number(UNLIMITED)
-    n0, n64, n512 = number(0), number(64), number(512)
-    seen = set()
-
-    def expect(want, answer, first=0, second=0, stores=0):
-        got = (answer.number, answer.first, answer.second, answer.stores)
-        assert got == (want, first, second, stores), (want, got)
-        seen.add(want)
-
-    def format_(name, want, keys_, depth, before):
-        expect(want, made.format("format_%s" % name, keys_, number(depth), before)[0])
-
-    def read_(name, want, keys_, line, output, before, *places):
-        expect(want, made.read("read_%s" % name, keys_, line, any_, output, before)[0], *places)
-
-    def write_(name, want, keys_, line, text, before, *places):
-        expect(want, made.write("write_%s" % name, keys_, line, text, any_, before)[0], *places)
-
-    def recover_(name, want, keys_, before, *places, **more):
-        expect(want, made.recover("recover_%s" % name, keys_, any_, before, **more)[0], *places)
-
-    def list_(name, want, output, before):
-        expect(want, made.list_refused("list_%s" % name, output, before))
-
-    # the single faults
-    format_("depth_0", 1, k, 0, fresh)
-    format_("depth_4", 1, k, 4, fresh)
-    format_("other_depth", 4, k, 2, fresh)
-    read_("keys", 2, keys(47), n0, out, fresh)
-    read_("control_length", 3, k, n0, out, fresh.short("control"))
-    read_("array_length", 4, k, n0, out, fresh.short("array"))
-    read_("cache_length", 5, k, n0, out, fresh.short("cache"))
-    read_("line", 6, k, n512, out, fresh)
-    read_("output", 7, k, n0, fill(63, 9), fresh)
-    write_("text", 7, k, n0, fill(65, 9), fresh)
-    list_("output", 7, fill(31, 9), fresh)
-    for name, at, byte in [("mark", 0, 81), ("first_count", 4, 2), ("depth_none", 5, 0), ("depth_4", 5, 4), ("second_count", 6, 0), ("queue_count", 15, 9)]:
-        read_(name, 21, k, n0, out, fresh.put("control", at, byte))
-    past = fresh.put("control", 15, 1).put("control", 24, 15, 2)
-    recover_("cell_past_map", 21, k, past)
-    pending = fresh.put("control", 15, 1)
-    read_("pending", 22, k, n0, out, pending)
-    read_("dirty_2", 23, k, n0, out, wrote.put("cache", 8, 2))
-    read_("empty_dirty", 23, k, n0, out, fresh.put("cache", 8, 1))
-    read_("stray_owner", 23, k, n0, out, wrote.put("cache", 0, 2))
-    read_("top_missing", 23, k, n0, out, wrote.put("cache", 292, 0).put("cache", 300, 0))
-    read_("top_tag", 24, k, n0, out, fresh.put("array", 72 * 520, 1), 1, 0)
-    read_("block_tag", 24, k, n64, out, fresh.put("array", 72 * 513 + 9, 1), 0, 1)
-    read_("phase", 25, k, n0, out, wrote.put("array", 64, 2), 0)
-    read_("data_tag", 25, k, n0, out, wrote.put("array", 3, 0), 0)
-    write_("last_minor", 26, k, n0, out, wrote.put("cache", 17, 127))
-    shadow = 72 * 521
-    recover_("shadow_stray", 27, k, fresh.put("array", shadow + 72, 1), 1)
-    recover_("shadow_top", 27, k, wrote.put("array", shadow + 72 * 4, 0), 4)
-    recover_("phase_4", 28, k, wrote.put("array", 64, 4))
-    recover_("past_127", 28, k, wrote.put("array", 72 * 512 + 8, 126))
-    recover_("root", 29, k, wrote.put("control", 7, 1))
-
-    # two faults at a time
-    format_("depth_and_keys", 1, keys(47), 0, fresh)
-    format_("keys_and_control", 2, keys(47), 1, fresh.short("control"))
-    format_("control_and_array", 3, k, 1, fresh.short("control").short("array"))
-    format_("array_and_cache", 4, k, 1, fresh.short("array").short("cache"))
-    read_("output_and_line", 7, k, n512, fill(63, 9), fresh)
-    read_("control_and_array", 21, k, n0, out, fresh.put("control", 0, 0).short("array"))
-    read_("pending_and_cache", 22, k, n0, out, pending.put("cache", 8, 1))
-    read_("cache_and_tag", 23, k, n0, out, fresh.put("cache", 8, 1).put("array", 72 * 520, 1))
-    write_("keys_and_control", 2, keys(49), n0, out, fresh.short("control"))
-    write_("text_and_line", 7, k, n512, fill(63, 9), fresh)
-    write_("line_and_pending", 6, k, n512, out, pending)
-    write_("cache_and_minor", 23, k, n0, out, wrote.put("cache", 17, 127).put("cache", 8, 2))
-    recover_("keys_and_control", 2, keys(0), fresh.short("control"))
-    recover_("control_and_cache", 21, k, fresh.put("control", 4, 0).short("cache"))
-    recover_("array_and_cache", 4, k, fresh.short("array").short("cache"))
-    recover_("shadow_and_phase", 27, k, wrote.put("array", shadow + 72, 1).put("array", 64, 4), 1)
-    recover_("phase_and_root", 28, k, wrote.put("array", 64, 4).put("control", 7, 1))
-    list_("control_and_cache", 3, fill(32, 9), fresh.short("control").short("cache"))
-    list_("mark_and_cache", 21, fill(32, 9), fresh.put("control", 0, 0).short("cache"))
-    list_("cache_and_output", 5, fill(31, 9), fresh.short("cache"))
-    list_("output_and_formed", 7, fill(31, 9), fresh.put("cache", 8, 1))
-    list_("formed", 23, fill(32, 9), fresh.put("cache", 8, 1))
-
+    made = Refusals()
+    single_faults(made)
+    two_faults(made)
+    told_to_c(made)
     # 27 to 29 come after the pending stores, which they tell and leave
-    line1 = wrote.put("control", 15, 1, 9).put("control", 24, 1)
-    recover_("root_pending", 29, k, line1, 0, 0, 3, after_name="finished")
-    assert seen == set(range(1, 8)) | set(range(21, 30)), seen
+    line1 = made.wrote.put("control", 15, 1, 9).put("control", 24, 1)
+    made.recover_("root_pending", 29, K, line1, 0, 0, 3, after_name="finished")
+    assert made.seen == set(range(1, 8)) | set(range(21, 30)), made.seen
     return {
         "crates/refusal_examples/specs/States.antt": states_file(made, "The modules of the refusal examples."),
         "crates/refusal_examples/proofs/Refusals.antt": theorems_file(
-            made, "refusal_examples", "Each refusal with its place, and pairs of faults that show the sequence."),
+            made, "refusal_examples", "Each refusal with its place, pairs of faults that show the sequence, the list, and what C is told.",
+            "use Rattle.calls.specs.Calls.{ListCall, codeForC, bufferForC, leftForC}\n"
+            "use Rattle.bench_listing.specs.States.{m0, m1}\n"),
     }
 
 
 # ---- every cut of a write with an eviction, a stop-loss store and a data cell, and recovery from each
 
+def before_eviction():
+    return written(formatted(1), (256, 1), (256, 2), (256, 3), (0, 4))
+
+
 def cut_examples():
     writes, early, middle, late = File(), File(), File(), File()
-    module = model.format_call(KEYS, 1, model.zero_module(1))[1]
-    for line, byte in [(256, 1), (256, 2), (256, 3), (0, 4)]:
-        module = model.write_call(KEYS, line, bytes([byte]) * 64, UNLIMITED, module)[1]
-    start = writes.name("start", module)
-    full = model.write_call(KEYS, 256, bytes([5]) * 64, UNLIMITED, module)[0].stores
+    start = writes.name("start", before_eviction())
+    full = model.write_call(KEYS, 256, bytes([5]) * 64, UNLIMITED, start.value)[0].stores
     assert full == 11
     for allowance in range(full + 1):
         answer, after = writes.write("cut%d" % allowance, keys(), number(256), fill(64, 5), number(allowance), start, "after%d" % allowance)
@@ -411,14 +456,33 @@ def cut_examples():
     return made
 
 
+# ---- depth 2: a write that loads and evicts on two levels, and the steps of the recovery that rebuilds them
+
+def deep_examples():
+    made = File()
+    start = made.name("start", written(formatted(2), (0, 1), (1024, 2)))
+    answer, after = made.write("written", keys(), number(7), fill(64, 3), number(13), start, "after")
+    assert answer == model.Answer("done", 0, 13, 0, 0)
+    answer, module = model.recover_call(KEYS, 0, after.lost().value)
+    assert answer == model.Answer("done", 0, 0, 1, 0)
+    owners = [slot.owner for slot in model.slots_of_cache(module.cache)]
+    blocks = literal(module.cache[:4 * 73] + bytes(4 * 73))
+    made.theorem("blocks", "rebuildBlocks 2 (after .array) 0 (%s) (emptyCache 2) 0 ≡ rebuilt (%s) 1" % (octets(owners[:4]), blocks))
+    made.theorem("nodes", "rebuildNodes 2 %s (after .array) 4 (%s) (%s) ≡ %s" % (K.text, octets(owners[4:]), blocks, literal(module.cache)))
+    return {
+        "crates/deep_examples/specs/States.antt": states_file(made, "Modules of depth 2."),
+        "crates/deep_examples/proofs/Deep.antt": theorems_file(
+            made, "deep_examples", "Depth 2: a write that evicts a counter block and a node, and what recovery rebuilds after it.",
+            "use Rattle.cache.specs.Cache.{emptyCache}\n"
+            "use Rattle.calls.specs.Calls.{Rebuilt, rebuilt, rebuildBlocks, rebuildNodes}\n"),
+    }
+
+
 # ---- two examples in the crate of the definitions itself, which its must-fail edits are held against
 
 def own_examples():
     made = File()
-    module = model.format_call(KEYS, 1, model.zero_module(1))[1]
-    for line, byte in [(256, 1), (256, 2), (256, 3), (0, 4)]:
-        module = model.write_call(KEYS, line, bytes([byte]) * 64, UNLIMITED, module)[1]
-    start = made.name("start", module)
+    start = made.name("start", before_eviction())
     answer, _ = made.write("written", keys(), number(256), fill(64, 5), number(19), start, "after")
     assert answer == model.Answer("done", 0, 11, 0, 0)
     answer, _ = made.recover("recovered", keys(), number(0), start.lost(), "rebuilt")
@@ -436,7 +500,7 @@ def main(words):
         print(__doc__)
         return 2
     files = {}
-    for make in (own_examples, bench_listing, refusal_examples, cut_examples):
+    for make in (own_examples, bench_listing, refusal_examples, cut_examples, deep_examples):
         files.update(make())
     failed = 0
     for name, text in sorted(files.items()):

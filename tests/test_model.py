@@ -280,137 +280,199 @@ def test_dirty_slots():
     equal("four dirty pages", listed(module), [0, 1, 2, 7])
 
 
-def peeled(call, defects, last):
+# ---- Refusals ----
+
+def refusal(number, stores=0, first=0, second=0):
+    return Answer("refused", number, stores, first, second)
+
+
+def short(data):
+    return data[:-1]
+
+
+def longer(data):
+    return data + b"\x00"
+
+
+def bytes_at(offset, piece):
+    return lambda data: patched(data, offset, piece)
+
+
+def cell_bytes_at(cell, offset, piece):
+    return bytes_at(72 * cell + offset, piece)
+
+
+def peeled(check_refused, inputs, defects):
     """Put all defects in, then take them out from the first on: each time
-    the lowest step must be the one that answers."""
-    for start in range(len(defects) + 1):
-        inputs = {}
-        for _, defect in defects[start:]:
-            for name, change in defect.items():
-                inputs.setdefault(name, []).append(change)
-        wanted = defects[start][0] if start < len(defects) else last
-        call(inputs, wanted)
+    the first one left must be the one that answers."""
+    for start, (wanted, _, _) in enumerate(defects):
+        faulty = dict(inputs)
+        for _, name, change in defects[start:]:
+            faulty[name] = change(faulty[name])
+        check_refused(wanted, **faulty)
 
 
-def test_refusals():
-    short = lambda data: data[:-1]
-    longer = lambda data: data + b"\x00"
+def test_format_refusals():
+    def check_refused(wanted, keys, depth, **parts):
+        module = Module(**parts)
+        equal("format refusal", format_call(keys, depth, module),
+              (wanted, module))
 
-    # Line 0 has been written and its page put out of its slot by page 4.
-    for minor, operation in ((1, "read"), (127, "write")):
-        base = written(1, *([0] * minor + [256]))
+    module = zero_module(2)
+    for depth in (0, 4, 2**64 - 1):
+        peeled(check_refused, dict(module._asdict(), keys=KEYS, depth=2), [
+            (refusal(1), "depth", lambda _, d=depth: d),
+            (refusal(2), "keys", short),
+            (refusal(3), "control", short),
+            (refusal(4), "array", longer),
+            (refusal(5), "cache", longer),
+        ])
+        equal("format without a defect",
+              format_call(KEYS, 2, module)[0].kind, "done")
 
-        def call(inputs, wanted, base=base, operation=operation):
-            values = {"keys": KEYS, "line": 0, "buffer": OUTPUT,
-                      "array": base.array, "control": base.control,
-                      "cache": base.cache}
-            for name, changes in inputs.items():
-                for change in changes:
-                    values[name] = change(values[name])
-            module = Module(values["array"], values["control"],
-                            values["cache"])
-            for allowance in (0, UNLIMITED):
-                if operation == "read":
-                    answer, after, output = read_call(
-                        values["keys"], values["line"], allowance,
-                        values["buffer"], module)
-                else:
-                    answer, after = write_call(
-                        values["keys"], values["line"], values["buffer"],
-                        allowance, module)
-                    output = values["buffer"]
-                if wanted[0] == "done":
-                    equal("%s without a defect" % operation, answer.kind,
-                          "done" if allowance else "cut")
-                    continue
-                equal("%s refusal" % operation,
-                      (answer, after, output),
-                      (Answer("refused", wanted[0], 0, *wanted[1:]), module,
-                       values["buffer"]))
 
-        data_defect = {"array": lambda a: cell_patched(
-            a, 0, 64, bytes([a[64] ^ 4]))}
-        tail = [((25, 0, 0), data_defect)] if operation == "read" else []
-        peeled(call, [
-            ((2, 0, 0), {"keys": short}),
-            ((3, 0, 0), {"control": longer}),
-            ((21, 0, 0), {"control": lambda c: patched(c, 0, b"p")}),
-            ((4, 0, 0), {"array": longer}),
-            ((5, 0, 0), {"cache": longer}),
-            ((7, 0, 0), {"buffer": short}),
-            ((6, 0, 0), {"line": lambda line: 512}),
-            ((22, 0, 0), {"control": lambda c: patched(c, 15, b"\x01")}),
-            ((23, 0, 0), {"cache": lambda c: patched(c, 73, number8(1))}),
-            ((24, 0, 0), {"array": lambda a: cell_patched(
-                a, 512, 0, b"\x01")}),
-        ] + tail, (26, 0, 0) if operation == "write" else ("done",))
+LINE_DEFECTS = [
+    (refusal(2), "keys", short),
+    (refusal(3), "control", longer),
+    (refusal(21), "control", bytes_at(0, b"p")),
+    (refusal(4), "array", longer),
+    (refusal(5), "cache", longer),
+    (refusal(7), "buffer", short),
+    (refusal(6), "line", lambda _: 512),
+    (refusal(22), "control", bytes_at(15, b"\x01")),
+    (refusal(23), "cache", bytes_at(73, number8(1))),
+    (refusal(24), "array", cell_bytes_at(512, 0, b"\x01")),
+]
 
-    # Slot 2 is empty, and page 0's block is behind its data cells.
-    base = written(1, 0, 0, 0, 1, 64)
-    cut_answer, pending = write_call(KEYS, 64, text_of(9), 3, base)
-    equal("pending base", cut_answer, Answer("cut", 0, 3, 0, 0))
 
-    def recovery(inputs, wanted):
-        values = {"keys": KEYS, "array": pending.array,
-                  "control": pending.control, "cache": pending.cache}
-        for name, changes in inputs.items():
-            for change in changes:
-                values[name] = change(values[name])
-        module = Module(values["array"], values["control"], values["cache"])
-        answer, after = recover_call(values["keys"], UNLIMITED, module)
-        if wanted[0] == "done":
-            equal("recovery", answer, Answer("done", 0, 3, 6, 0))
-            return
-        late = wanted[0] in (27, 28, 29)
-        equal("recovery refusal", answer,
-              Answer("refused", wanted[0], 3 if late else 0, *wanted[1:]))
+def line_inputs(module):
+    return dict(module._asdict(), keys=KEYS, line=0, buffer=OUTPUT)
+
+
+def evicted(writes):
+    """Line 0 written so often, its page then evicted by page 4."""
+    return written(1, *[0] * writes, 256)
+
+
+def test_read_refusals():
+    def check_refused(wanted, keys, line, buffer, **parts):
+        module = Module(**parts)
+        for allowance in (0, UNLIMITED):
+            equal("read refusal",
+                  read_call(keys, line, allowance, buffer, module),
+                  (wanted, module, buffer))
+
+    module = evicted(1)
+    other_phase = bytes([module.array[64] ^ 4])
+    peeled(check_refused, line_inputs(module), LINE_DEFECTS + [
+        (refusal(25), "array", cell_bytes_at(0, 64, other_phase))])
+    for allowance, kind in ((0, "cut"), (UNLIMITED, "done")):
+        answer, _, _ = read_call(KEYS, 0, allowance, OUTPUT, module)
+        equal("read without a defect", answer.kind, kind)
+
+
+def test_write_refusals():
+    def check_refused(wanted, keys, line, buffer, **parts):
+        module = Module(**parts)
+        for allowance in (0, UNLIMITED):
+            equal("write refusal",
+                  write_call(keys, line, buffer, allowance, module),
+                  (wanted, module))
+
+    inputs = line_inputs(evicted(127))
+    peeled(check_refused, inputs, LINE_DEFECTS)
+    check_refused(refusal(26), **inputs)
+
+
+def two_pages():
+    """Slot 2 is empty, and page 0's block is behind its data cells."""
+    return written(1, 0, 0, 0, 1, 64)
+
+
+def pending_write():
+    return write_call(KEYS, 64, text_of(9), 3, two_pages())
+
+
+def test_recovery_refusals():
+    def check_refused(wanted, keys, **parts):
+        module = Module(**parts)
+        answer, after = recover_call(keys, UNLIMITED, module)
+        equal("recovery refusal", answer, wanted)
         equal("cache after a refused recovery", after.cache, module.cache)
-        if late:
-            stores = model.stores_of_pending(module.control)
-            equal("pending part", (after.array, after.control),
-                  model.apply_stores(stores, module.array, module.control))
-            for allowance in range(3):
-                equal("cut before a late refusal",
-                      recover_call(KEYS, allowance, module)[0],
-                      Answer("cut", 0, allowance, 0, 0))
-        else:
-            equal("module after a refused recovery", after, module)
+        stores = model.stores_of_pending(module.control)[:wanted.stores]
+        equal("stores of a refused recovery", (after.array, after.control),
+              model.apply_stores(stores, module.array, module.control))
+        for allowance in range(wanted.stores):
+            equal("cut before a late refusal",
+                  recover_call(keys, allowance, module)[0],
+                  Answer("cut", 0, allowance, 0, 0))
 
-    peeled(recovery, [
-        ((2, 0, 0), {"keys": longer}),
-        ((3, 0, 0), {"control": short}),
-        ((21, 0, 0), {"control": lambda c: patched(c, 24, number8(527))}),
-        ((4, 0, 0), {"array": short}),
-        ((5, 0, 0), {"cache": short}),
-        ((27, 2, 0), {"array": lambda a: cell_patched(
-            a, shadow_cell(1, 2), 0, number8(2))}),
-        ((27, 4, 0), {"array": lambda a: cell_patched(
-            a, shadow_cell(1, 4), 0, number8(0))}),
-        ((28, 0, 0), {"array": lambda a: cell_patched(a, 5, 64, b"\x04")}),
-        ((28, 0, 0), {"array": lambda a: cell_patched(
-            a, 512, 0, counter_block(0, [0] * 63 + [125]))}),
-        ((29, 0, 0), {"array": lambda a: cell_patched(a, 519, 9, b"\x01")}),
-    ], ("done",))
+    answer, module = pending_write()
+    equal("pending write", answer, Answer("cut", 0, 3, 0, 0))
+    ahead = counter_block(0, [0] * 63 + [125])
+    peeled(check_refused, dict(module._asdict(), keys=KEYS), [
+        (refusal(2), "keys", longer),
+        (refusal(3), "control", short),
+        (refusal(21), "control", bytes_at(24, number8(527))),
+        (refusal(4), "array", short),
+        (refusal(5), "cache", short),
+        (refusal(27, 3, 2), "array",
+         cell_bytes_at(shadow_cell(1, 2), 0, number8(2))),
+        (refusal(27, 3, 4), "array",
+         cell_bytes_at(shadow_cell(1, 4), 0, number8(0))),
+        (refusal(28, 3), "array", cell_bytes_at(5, 64, b"\x04")),
+        (refusal(28, 3), "array", cell_bytes_at(512, 0, ahead)),
+        (refusal(29, 3), "array", cell_bytes_at(519, 9, b"\x01")),
+    ])
+    equal("recovery without a defect",
+          recover_call(KEYS, UNLIMITED, module)[0],
+          Answer("done", 0, 3, 6, 0))
 
-    # A shadow that lists nothing: the array's top has to give the root.
+
+def test_list_refusals():
+    def check_refused(wanted, output, control, cache):
+        equal("list refusal", dirty_list_call(output, control, cache),
+              (wanted, output))
+
+    _, module = pending_write()
+    inputs = {"output": b"\x01" * 32, "control": module.control,
+              "cache": module.cache}
+    peeled(check_refused, inputs, [
+        (refusal(3), "control", short),
+        (refusal(21), "control", bytes_at(6, b"\x02")),
+        (refusal(5), "cache", longer),
+        (refusal(7), "output", longer),
+        (refusal(23), "cache", bytes_at(8, b"\x02")),
+    ])
+    equal("list without a defect", dirty_list_call(**inputs),
+          (Answer("done", 0, 0, 0, 0),
+           number8(0) + number8(1) + b"\xff" * 16))
+
+
+def test_bad_top():
+    """With a shadow that lists nothing the array's top must give the root."""
     fresh = formatted(1)
     bad_top = fresh._replace(array=cell_patched(fresh.array, 520, 3, b"\x07"))
-    bad_root = fresh._replace(control=patched(fresh.control, 7, b"\x00" * 8))
+    bad_root = fresh._replace(control=patched(fresh.control, 7, bytes(8)))
     for module in (bad_top, bad_root):
         equal("top of the array", recover_call(KEYS, UNLIMITED, module)[0],
-              Answer("refused", 29, 0, 0, 0))
+              refusal(29))
         equal("top on the path",
               read_call(KEYS, 9, UNLIMITED, OUTPUT, module)[0],
-              Answer("refused", 24, 0, 1, 0))
+              refusal(24, first=1))
 
-    # Places of a bad node, and of a bad shadow, in deeper trees.
+
+def test_bad_nodes():
     deep = formatted(3)
     for level, index in ((3, 0), (2, 6), (1, 53), (0, 427)):
         module = deep._replace(array=cell_patched(
             deep.array, node_cell(3, level, index), 63, b"\x80"))
         equal("bad node of level %d" % level,
               write_call(KEYS, 64 * 427 + 9, OUTPUT, 0, module)[0],
-              Answer("refused", 24, 0, level, index))
+              refusal(24, first=level, second=index))
+
+
+def test_bad_shadows():
     for depth, slot, owner, place in (
             (1, 5, 2, 5), (1, 4, 2, 4), (1, 3, 4, 4), (1, 3, 12, 3),
             (2, 0, 61, 6), (2, 4, 7, 6), (2, 4, 9, 4), (2, 5, 1, 5),
@@ -420,58 +482,11 @@ def test_refusals():
         module = module._replace(array=cell_patched(
             module.array, shadow_cell(depth, slot), 0, number8(owner)))
         equal("shadow of slot %d, owner %d, depth %d" % (slot, owner, depth),
-              recover_call(KEYS, 0, module)[0],
-              Answer("refused", 27, 0, place, 0))
+              recover_call(KEYS, 0, module)[0], refusal(27, first=place))
 
-    def formatting(inputs, wanted):
-        values = {"keys": KEYS, "depth": 2,
-                  "array": bytes(array_length(2)), "control": bytes(664),
-                  "cache": bytes(cache_length(2))}
-        for name, changes in inputs.items():
-            for change in changes:
-                values[name] = change(values[name])
-        module = Module(values["array"], values["control"], values["cache"])
-        answer, after = format_call(values["keys"], values["depth"], module)
-        if wanted[0] == "done":
-            equal("format", answer.kind, "done")
-            return
-        equal("format refusal", (answer, after),
-              (Answer("refused", wanted[0], 0, 0, 0), module))
 
-    for depth in (0, 4, 2**64 - 1):
-        peeled(formatting, [
-            ((1,), {"depth": lambda _, d=depth: d}),
-            ((2,), {"keys": short}),
-            ((3,), {"control": short}),
-            ((4,), {"array": longer}),
-            ((5,), {"cache": longer}),
-        ], ("done",))
-
-    def listing(inputs, wanted):
-        values = {"output": b"\x01" * 32, "control": pending.control,
-                  "cache": base.cache}
-        for name, changes in inputs.items():
-            for change in changes:
-                values[name] = change(values[name])
-        answer, output = dirty_list_call(values["output"], values["control"],
-                                         values["cache"])
-        if wanted[0] == "done":
-            equal("list", (answer, output),
-                  (Answer("done", 0, 0, 0, 0),
-                   number8(0) + number8(1) + b"\xff" * 16))
-            return
-        equal("list refusal", (answer, output),
-              (Answer("refused", wanted[0], 0, 0, 0), values["output"]))
-
-    peeled(listing, [
-        ((3,), {"control": short}),
-        ((21,), {"control": lambda c: patched(c, 6, b"\x02")}),
-        ((5,), {"cache": longer}),
-        ((7,), {"output": longer}),
-        ((23,), {"cache": lambda c: patched(c, 8, b"\x02")}),
-    ], ("done",))
-
-    # The ways in which a control record or a cache can be bad.
+def test_bad_control_records():
+    base = two_pages()
     for offset, piece in ((3, b"J"), (4, b"\x00"), (4, b"\x02"),
                           (5, b"\x00"), (5, b"\x04"), (6, b"\x00"),
                           (15, b"\x09"), (15, b"\xff")):
@@ -484,6 +499,10 @@ def test_refusals():
         equal("cell number in an unused place, count %d" % count,
               dirty_list_call(bytes(32), control, base.cache)[0].number,
               wanted)
+
+
+def test_bad_caches():
+    base = two_pages()
     for slot, owner, dirty, wanted in (
             (2, 0, 1, 23), (2, 3, 0, 0), (2, 3, 1, 0), (2, 3, 2, 23),
             (2, 2, 0, 23), (2, 7, 0, 0), (2, 11, 0, 23), (3, 2**64 - 1, 0, 23),
@@ -494,6 +513,8 @@ def test_refusals():
         equal("slot %d of owner %d" % (slot, owner),
               read_call(KEYS, 0, UNLIMITED, OUTPUT, module)[0].number, wanted)
 
+
+# ---- C side ----
 
 def test_c_side():
     full = b"\xee" * 24
@@ -510,6 +531,8 @@ def test_c_side():
             equal("C side, %d bytes" % length,
                   for_c(bytes(length), answer), (107, bytes(length)))
 
+
+# ---- Stores ----
 
 def test_stores_one_by_one():
     """Each further unit of allowance makes exactly the next store."""
@@ -552,29 +575,31 @@ def test_batch_bound():
 
 # ---- Histories ----
 
-def test_list_rule():
-    write = ("write", KEYS, 0, text_of(1), UNLIMITED)
-    junk = b"\xc3" * cache_length(1)
-    cut_write = ("write", KEYS, 0, text_of(2), 2)
+WRITE = ("write", KEYS, 0, text_of(1), UNLIMITED)
+CUT_WRITE = ("write", KEYS, 0, text_of(2), 2)
+JUNK = b"\xc3" * cache_length(1)
+
+
+def test_forbidden_lists():
     forbidden = {
         "done format": [("format", KEYS, 1)],
-        "read after a cut": [("power_cut", junk),
+        "read after a cut": [("power_cut", JUNK),
                              ("read", KEYS, 0, UNLIMITED, OUTPUT)],
-        "list after a cut": [write, cut_write, ("list", bytes(32))],
-        "refused format after a cut": [("power_cut", junk),
+        "list after a cut": [WRITE, CUT_WRITE, ("list", bytes(32))],
+        "refused format after a cut": [("power_cut", JUNK),
                                        ("format", KEYS, 0)],
-        "write after a cut recovery": [write, cut_write, ("recover", KEYS, 1),
-                                       write],
-        "cache length": [("power_cut", junk + b"\x00")],
-        "other keys, blank read": [write, ("read", OTHER_TAG, 1, UNLIMITED,
+        "write after a cut recovery": [WRITE, CUT_WRITE, ("recover", KEYS, 1),
+                                       WRITE],
+        "cache length": [("power_cut", JUNK + b"\x00")],
+        "other keys, blank read": [WRITE, ("read", OTHER_TAG, 1, UNLIMITED,
                                            OUTPUT)],
-        "other keys, done read": [write, ("read", OTHER_PAD, 0, UNLIMITED,
+        "other keys, done read": [WRITE, ("read", OTHER_PAD, 0, UNLIMITED,
                                           OUTPUT)],
-        "other keys, done recovery": [write, ("recover", OTHER_PAD, 0)],
-        "other keys, cut recovery": [write, cut_write,
+        "other keys, done recovery": [WRITE, ("recover", OTHER_PAD, 0)],
+        "other keys, cut recovery": [WRITE, CUT_WRITE,
                                      ("recover", OTHER_TAG, 0)],
         "other keys, refused recovery with stores": [
-            write, cut_write, ("recover", OTHER_TAG, UNLIMITED)],
+            WRITE, CUT_WRITE, ("recover", OTHER_TAG, UNLIMITED)],
         "unknown event": [("erase", KEYS)],
         "allowance": [("recover", KEYS, 2**64)],
     }
@@ -582,28 +607,33 @@ def test_list_rule():
         raises_value_error(what, lambda e=events: run_history(KEYS, 1, e))
     raises_value_error("depth", lambda: run_history(KEYS, 4, []))
     raises_value_error("keys", lambda: run_history(KEYS[:47], 1, []))
-    allowed = [
-        write, ("format", KEYS, 3), ("format", b"", 1),
+
+
+def test_allowed_list():
+    events = [
+        WRITE, ("format", KEYS, 3), ("format", b"", 1),
         ("format", OTHER_TAG, 2**64 - 1), ("list", b""),
         ("read", b"k", 0, 0, OUTPUT), ("read", OTHER_TAG, 0, 0, OUTPUT),
         ("write", OTHER_TAG, 64, text_of(3), 0),
-        ("recover", OTHER_TAG, 0), ("recover", KEYS + KEYS, 0), cut_write,
-        ("recover", KEYS[:5], 0), ("power_cut", junk), ("recover", KEYS, 1),
-        ("power_cut", junk), ("recover", KEYS, UNLIMITED), ("list", bytes(32)),
+        ("recover", OTHER_TAG, 0), ("recover", KEYS + KEYS, 0), CUT_WRITE,
+        ("recover", KEYS[:5], 0), ("power_cut", JUNK), ("recover", KEYS, 1),
+        ("power_cut", JUNK), ("recover", KEYS, UNLIMITED), ("list", bytes(32)),
         ("recover", KEYS, 0)]
-    attempt("allowed list", lambda: run_history(KEYS, 1, allowed))
+    attempt("allowed list", lambda: run_history(KEYS, 1, events))
+
+
+def tampered(change):
+    """Check the clauses after a recovery and then a change."""
+    history = History(KEYS, 1)
+    for line in (0, 0, 256, 0):
+        history.step(("write", KEYS, line, text_of(line + 1), UNLIMITED))
+    answer, _ = history.step(("recover", KEYS, UNLIMITED))
+    change(history)
+    history.check_recovered(answer.first)
 
 
 def test_checker_bites():
     """A module that has been tampered with fails the clauses."""
-    def tampered(change):
-        history = History(KEYS, 1)
-        for line in (0, 0, 256, 0):
-            history.step(("write", KEYS, line, text_of(line + 1), UNLIMITED))
-        answer, _ = history.step(("recover", KEYS, UNLIMITED))
-        change(history)
-        history.check_recovered(answer.first)
-
     def book_count(history):
         history.counts[0] += 1
 
@@ -853,10 +883,14 @@ def test_worn_line():
 
 def main():
     for test in (test_primitives, test_arithmetic, test_bench, test_format,
-                 test_bytes_of_a_write, test_dirty_slots, test_refusals,
+                 test_bytes_of_a_write, test_dirty_slots,
+                 test_format_refusals, test_read_refusals,
+                 test_write_refusals, test_recovery_refusals,
+                 test_list_refusals, test_bad_top, test_bad_nodes,
+                 test_bad_shadows, test_bad_control_records, test_bad_caches,
                  test_c_side, test_stores_one_by_one, test_batch_bound,
-                 test_list_rule, test_checker_bites, test_random_histories,
-                 test_every_cut, test_worn_line):
+                 test_forbidden_lists, test_allowed_list, test_checker_bites,
+                 test_random_histories, test_every_cut, test_worn_line):
         try:
             test()
         except Exception as failure:

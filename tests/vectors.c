@@ -8,7 +8,7 @@
 #define FILE_NAME "crates/vectors/stdout"
 enum { LINE = 256 };
 
-static FILE *held; // the file to compare, or NULL to print
+static FILE *expected; // the file to compare, or NULL to print
 static int passed, failed;
 
 static void say(const char *name, const unsigned char *bytes, size_t n)
@@ -18,12 +18,12 @@ static void say(const char *name, const unsigned char *bytes, size_t n)
     for (size_t i = 0; i < n; i++)
         at += (size_t)snprintf(want + at, sizeof want - at, "%02x", bytes[i]);
     snprintf(want + at, sizeof want - at, "\n");
-    if (!held) {
+    if (!expected) {
         fputs(want, stdout);
         return;
     }
     char line[LINE] = "";
-    if (fgets(line, sizeof line, held) && strcmp(line, want) == 0) {
+    if (fgets(line, sizeof line, expected) && strcmp(line, want) == 0) {
         passed++;
     } else {
         failed++;
@@ -85,17 +85,17 @@ int main(int count, char **args)
 {
     if (sodium_init() < 0)
         return 1;
-    if ((count < 2 || strcmp(args[1], "print") != 0) && !(held = fopen(FILE_NAME, "r"))) {
+    if ((count < 2 || strcmp(args[1], "print") != 0) && !(expected = fopen(FILE_NAME, "r"))) {
         perror(FILE_NAME);
         return 1;
     }
     rfc8439();
     siphash();
-    if (!held)
+    if (!expected)
         return failed != 0;
-    if (fgetc(held) != EOF)
+    if (fgetc(expected) != EOF)
         failed++;
-    fclose(held);
+    fclose(expected);
     printf("vectors: %d passed, %d failed\n", passed, failed);
     return failed != 0;
 }

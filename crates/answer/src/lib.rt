@@ -1,7 +1,4 @@
 // What a call answers, and what the C side is told of it.
-ghost use mathlib.Core.Path.{_≡_};
-ghost use Rattle.answer.specs.Answer.{codeOf, storesOf, firstOf, secondOf};
-
 pub enum Answer {
     Done {
         stores: u64,

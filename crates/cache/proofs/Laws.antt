@@ -209,16 +209,16 @@ pub not-bad : (h : ℕ) (f : ℕ → ℕ) → Owned h f → badSlot h (from f 0 
 not-bad h f o =
     nothing (badSlot h (from f 0 (slots h)))
     (bad-all h f ∙ and-eq-true-iff (all (placed h f) 0 (slots h)) (not (not (all (empty f) 0 (slots h)) && eqb (f (topSlot h)) 0)) .1
-    (at-all (placed h f) 0 (slots h) (λ t l u. place t (rw zero-add at u) (f t) refl), held (f (topSlot h)) refl))
+    (at-all (placed h f) 0 (slots h) (λ t l u. place t (rw zero-add at u) (f t) refl), cached (f (topSlot h)) refl))
   where
     place : (t : ℕ) → t < slots h → (k : ℕ) → f t ≡ k → placed h f t ≡ true
     place t p zero e = place-empty (f t) (belongs h t (f t)) e
     place t p (suc i) e = place-filled (f t) (belongs h t (f t)) (λ z. omega arith) ∙ ap (belongs h t) e ∙ o .belong t i p e
 
-    held : (k : ℕ) → f (topSlot h) ≡ k → not (not (all (empty f) 0 (slots h)) && eqb (f (topSlot h)) 0) ≡ true
-    held zero e =
+    cached : (k : ℕ) → f (topSlot h) ≡ k → not (not (all (empty f) 0 (slots h)) && eqb (f (topSlot h)) 0) ≡ true
+    cached zero e =
         ap (λ (a : Bool). not (not a && eqb (f (topSlot h)) 0)) (at-all (empty f) 0 (slots h) (λ t l u. eq-eqb (f t) 0 (o .top e t (rw zero-add at u))))
-    held (suc i) e =
+    cached (suc i) e =
         ap (λ (b : Bool). not (not (all (empty f) 0 (slots h)) && b)) (ne-eqb (f (topSlot h)) 0 (λ z. omega arith))
         ∙ ap not (and-false (not (all (empty f) 0 (slots h))))
 
@@ -330,9 +330,9 @@ pub other-holds : (c : List ℕ) (l i : ℕ) → (owner c (slotOf l i) ≡ suc i
 unfolding holds
 other-holds c l i e = ne-eqb (owner c (slotOf l i)) (suc i) e
 
-pub current-held : (h : ℕ) (a c : List ℕ) (l i : ℕ) → holds c l i ≡ true → current h a c l i ≡ content c (slotOf l i)
+pub current-cached : (h : ℕ) (a c : List ℕ) (l i : ℕ) → holds c l i ≡ true → current h a c l i ≡ content c (slotOf l i)
 unfolding current
-current-held h a c l i e = ap (λ (b : Bool). cond b (content c (slotOf l i)) (cellContent a (cellOf h (node l i)))) e
+current-cached h a c l i e = ap (λ (b : Bool). cond b (content c (slotOf l i)) (cellContent a (cellOf h (node l i)))) e
 
 pub current-missing : (h : ℕ) (a c : List ℕ) (l i : ℕ) → holds c l i ≡ false → current h a c l i ≡ cellContent a (cellOf h (node l i))
 unfolding current
@@ -346,9 +346,9 @@ slot-holds h c s i f p e =
     (place .0, (place .1, owner-holds c (levelOf s) i (ap (owner c) (place .1) ∙ e)))
 
 -- a formed cache with a filled slot holds the top
-pub top-held : (h : ℕ) (c : List ℕ) (s i : ℕ) → Formed h c → s < slots h → owner c s ≡ suc i → holds c h 0 ≡ true
+pub top-cached : (h : ℕ) (c : List ℕ) (s i : ℕ) → Formed h c → s < slots h → owner c s ≡ suc i → holds c h 0 ≡ true
 unfolding nodes
-top-held h c s i f p e = go (owner c (topSlot h)) refl
+top-cached h c s i f p e = go (owner c (topSlot h)) refl
   where
     go : (o : ℕ) → owner c (topSlot h) ≡ o → holds c h 0 ≡ true
     go zero z = absurd (omega (arith, f .owners .top z s p))
@@ -368,7 +368,7 @@ module _ (h : ℕ) (c : List ℕ) (sized : length c ≡ cacheLength h) (s : ℕ)
 
   pub current-same : (a : List ℕ) (l i : ℕ) → s ≡ slotOf l i → o ≡ suc i → o < 2 ^ 64 → current h a (withSlot c s o d b) l i ≡ b
   current-same a l i e p q =
-      current-held h a (withSlot c s o d b) l i (holds-same l i e p q) ∙ ap (content (withSlot c s o d b)) (sym e) ∙ content-same h c sized s within o d b full
+      current-cached h a (withSlot c s o d b) l i (holds-same l i e p q) ∙ ap (content (withSlot c s o d b)) (sym e) ∙ content-same h c sized s within o d b full
 
   pub current-other : (a : List ℕ) (l i : ℕ) → (slotOf l i ≡ s → ⊥) → current h a (withSlot c s o d b) l i ≡ current h a c l i
   unfolding current

@@ -22,7 +22,7 @@ use Rattle.tag.specs.Tag.{nodeTag}
 use Rattle.journal.specs.Journal.{Store, storeAll, made, isCut, pendingStores, batchStores}
 use Rattle.journal.proofs.Laws.{made-within, made-all, less-cut, cut-made}
 use Rattle.calls.specs.Path.{Loaded, loaded, differs}
-use Rattle.calls.specs.Calls.{Module, Called, Reading, mediaOf, withMedia, refuse, storing, answered, turnedAway, accessRefusal, lineMinor, sideOk, lineText, readLoaded, readPath, pathOf, readJudged, read, writeStores, writtenCache, writeLoaded, writePath, writeJudged, write, Rebuilt, rebuilt, damaged, rebuildBlocks, rebuildNodes, recoveryRefusal, recoverRoot, recoverRebuilt, recoverShadow, recoverMedia, recoverJudged, recover}
+use Rattle.calls.specs.Calls.{Module, Called, Reading, mediaOf, withMedia, refuse, storing, answered, refusedRead, accessRefusal, lineMinor, sideOk, lineText, readLoaded, readPath, pathOf, readJudged, read, writeStores, writtenCache, writeLoaded, writePath, writeJudged, write, Rebuilt, rebuilt, damaged, rebuildBlocks, rebuildNodes, recoveryRefusal, recoverRoot, recoverRebuilt, recoverShadow, recoverMedia, recoverJudged, recover}
 use Rattle.calls.specs.History.{NotCut}
 
 -- a call as a function of its allowance
@@ -102,14 +102,14 @@ module _ (keys : List ℕ) (line : ℕ) (m : Module) where
 
   module _ (out : List ℕ) where
     read-found : (b : Bool) (text : List ℕ) (xs : List Store) (c : List ℕ)
-        → Limited (λ a. (cond b (answered a m xs (Done (length xs) 0) c text out) (turnedAway (refuse m 25 line 0) out)) .called)
+        → Limited (λ a. (cond b (answered a m xs (Done (length xs) 0) c text out) (refusedRead (refuse m 25 line 0) out)) .called)
     unfolding answered storesOf
     read-found true text xs c = stored-limited m xs (Done (length xs) 0) c refl (done-not (length xs) 0)
     read-found false text xs c = refused-limited m 25 line 0
 
     read-line : (z b : Bool) (text : List ℕ) (xs : List Store) (c : List ℕ)
         → Limited (λ a. (cond z (answered a m xs (Blank (length xs)) c (replicate 64 0) out)
-        (cond b (answered a m xs (Done (length xs) 0) c text out) (turnedAway (refuse m 25 line 0) out))) .called)
+        (cond b (answered a m xs (Done (length xs) 0) c text out) (refusedRead (refuse m 25 line 0) out))) .called)
     unfolding answered storesOf
     read-line true b text xs c = stored-limited m xs (Blank (length xs)) c refl (blank-not (length xs))
     read-line false b text xs c = read-found b text xs c

@@ -31,7 +31,7 @@ use Rattle.counter.proofs.Laws.{length-withMinor, below-withMinor}
 use Rattle.pad.specs.Pad.{pad, xorBytes}
 use Rattle.pad.proofs.Nonce.{length-pad, below-pad}
 use Rattle.pad.proofs.Xor.{length-xor, below-xor}
-use Rattle.calls.specs.Calls.{Module, Called, Reading, mediaOf, withMedia, refuse, storing, answered, pageBlock, lineMinor, newMinor, newBlock, stopLoss, turnedAway, sideBytes, sideOk, lineText, readLoaded, readPath, readJudged, read, dataCell, writeBatch, writeStores, writtenCache, writeLoaded, writePath, pathOf, writeJudged, write, accessRefusal}
+use Rattle.calls.specs.Calls.{Module, Called, Reading, mediaOf, withMedia, refuse, storing, answered, pageBlock, lineMinor, newMinor, newBlock, stopLoss, refusedRead, sideBytes, sideOk, lineText, readLoaded, readPath, readJudged, read, dataCell, writeBatch, writeStores, writtenCache, writeLoaded, writePath, pathOf, writeJudged, write, accessRefusal}
 use Rattle.call_laws.proofs.Judged.{Sized, Opened, Accepted, access-accepted, recovery-opened, head-of, page-inside}
 use Rattle.call_laws.proofs.Loads.{Sound, Fit, Loads, LoadsIf, path-loads, content-length, content-below, cell-length, cell-below, slot-room, sound-node, zeros-bytes}
 
@@ -271,7 +271,7 @@ pub record ReadKept (m : Module) (out : List ℕ) (r : Reading) : Type 0 where
   pub length-output : length (r .output) ≡ length out
   pub bytes-output : Below 256 (r .output)
 
-refused-read : (m : Module) (b : Bytes m) (out : List ℕ) → Below 256 out → (n x y : ℕ) → ReadKept m out (turnedAway (refuse m n x y) out)
+refused-read : (m : Module) (b : Bytes m) (out : List ℕ) → Below 256 out → (n x y : ℕ) → ReadKept m out (refusedRead (refuse m n x y) out)
 refused-read m b out p n x y = record { buffers = kept-same m b; length-output = refl; bytes-output = p }
 
 module _ (keys : List ℕ) (n : ℕ) (out : List ℕ) (m : Module) (b : Bytes m) (plain : Below 256 out) (ok : Accepted keys n out m) where
@@ -317,7 +317,7 @@ module _ (keys : List ℕ) (n : ℕ) (out : List ℕ) (m : Module) (b : Bytes m)
       few = omega (arith, l .few, read-deep)
 
       go : (t u : Bool) → ReadKept m out (cond t (answered a m (batchStores x (root (m .control))) (Blank (length (batchStores x (root (m .control))))) c (replicate 64 0) out)
-          (cond u (answered a m (batchStores x (root (m .control))) (Done (length (batchStores x (root (m .control)))) 0) c (lineText keys (m .array) c n) out) (turnedAway (refuse m 25 n 0) out)))
+          (cond u (answered a m (batchStores x (root (m .control))) (Done (length (batchStores x (root (m .control)))) 0) c (lineText keys (m .array) c n) out) (refusedRead (refuse m 25 n 0) out)))
       go true u = answered-kept a c x _ (replicate 64 0) (l .fit) (l .sound) few (length-replicate {A = ℕ} 64 0) (zeros-bytes 64)
       go false true = answered-kept a c x _ (lineText keys (m .array) c n) (l .fit) (l .sound) few (text-size c) (text-bytes c)
       go false false = refused-read m b out plain 25 n 0

@@ -92,7 +92,7 @@ module _ (h : ℕ) (low : 1 ≤ h) (high : h ≤ 3) (keys a : List ℕ) (whole :
   pub record Took (c : List ℕ) (l i : ℕ) (d : List ℕ) (y : List Cell) : Type 0 where
     pub fit : Fit h d
     pub sound : Each (Sound h) y
-    pub held : owner d (slotOf l i) ≡ suc i
+    pub cached : owner d (slotOf l i) ≡ suc i
     pub few : length y ≤ 2
     pub lean : dirty c (slotOf l i) ≡ 0 → length y ≤ 1
     pub idle : holds c l i ≡ true → y ≡ []
@@ -173,9 +173,9 @@ module _ (h : ℕ) (low : 1 ≤ h) (high : h ≤ 3) (keys a : List ℕ) (whole :
             bytes = below-with h c (fit .sized) (slotOf l i) in-slots (suc i) 0 b b-length (lit< tt) (cell-below a (cellOf h (node l i)) plain) (fit .bytes);
           }
 
-      took-held : owner d (slotOf l i) ≡ suc i
+      took-cached : owner d (slotOf l i) ≡ suc i
       unfolding d
-      took-held = owner-same h c (fit .sized) (slotOf l i) in-slots (suc i) 0 b b-length small
+      took-cached = owner-same h c (fit .sized) (slotOf l i) in-slots (suc i) 0 b b-length small
 
       took-others : (k j : ℕ) → (k ≡ l → ⊥) → dirty d (slotOf k j) ≡ dirty c (slotOf k j)
       unfolding d
@@ -188,7 +188,7 @@ module _ (h : ℕ) (low : 1 ≤ h) (high : h ≤ 3) (keys a : List ℕ) (whole :
       took-topped p q = go (ℕ-discrete (topSlot h) (slotOf l i))
         where
           go : Dec (topSlot h ≡ slotOf l i) → ⊥
-          go (yes e) = omega (arith, sym (ap (owner (withSlot c (slotOf l i) (suc i) 0 b)) e) ∙ q, took-held)
+          go (yes e) = omega (arith, sym (ap (owner (withSlot c (slotOf l i) (suc i) 0 b)) e) ∙ q, took-cached)
           go (no e) = p (sym (owner-other h c (fit .sized) (slotOf l i) in-slots (suc i) 0 b b-length (topSlot h) e) ∙ q)
 
       y : List Cell
@@ -212,7 +212,7 @@ module _ (h : ℕ) (low : 1 ≤ h) (high : h ≤ 3) (keys a : List ℕ) (whole :
           record {
             fit = fit;
             sound = none;
-            held = holds-owner c l i e;
+            cached = holds-owner c l i e;
             few = zero-le;
             lean = λ p. zero-le;
             idle = λ p. refl;
@@ -223,7 +223,7 @@ module _ (h : ℕ) (low : 1 ≤ h) (high : h ≤ 3) (keys a : List ℕ) (whole :
           record {
             fit = took-fit;
             sound = y-sound;
-            held = took-held;
+            cached = took-cached;
             few = omega (arith, y-length, evicted-few);
             lean = y-lean;
             idle = λ p. absurd (false≢true (sym e ∙ p));
@@ -265,8 +265,8 @@ module _ (h : ℕ) (low : 1 ≤ h) (high : h ≤ 3) (keys a : List ℕ) (whole :
         go : Dec (owner c (topSlot h) ≡ 0) → ⊥
         go (no q) = took .topped q e
         go (yes q) =
-            let held : owner d (slotOf h (onPath p h)) ≡ suc (onPath p h) = subst (λ (k : ℕ). owner d (slotOf k (onPath p k)) ≡ suc (onPath p k)) (top q) (took .held) in
-            omega (arith, subst (λ (k : ℕ). owner d (slotOf h k) ≡ suc k) top-node held)
+            let cached : owner d (slotOf h (onPath p h)) ≡ suc (onPath p h) = subst (λ (k : ℕ). owner d (slotOf k (onPath p k)) ≡ suc (onPath p k)) (top q) (took .cached) in
+            omega (arith, subst (λ (k : ℕ). owner d (slotOf h k) ≡ suc k) top-node cached)
 
     -- the levels below l, and then with level l before them
     below : (c : List ℕ) (x : List Cell) (l : ℕ) (d : List ℕ) (y : List Cell) → Took c l (onPath p l) d y
@@ -342,13 +342,13 @@ module _ (h : ℕ) (low : 1 ≤ h) (high : h ≤ 3) (keys a : List ℕ) (whole :
         let first : o ≡ 0 = omega arith in
         owner-holds c h (onPath p h) (ap (λ (k : ℕ). owner c (slotOf h k)) top-node ∙ e ∙ ap suc (first ∙ sym top-node))
 
-    load-held : (c : List ℕ) (l i t : ℕ) → holds c l i ≡ true → loadNode h keys a c l i t ≡ loaded c []
+    load-cached : (c : List ℕ) (l i t : ℕ) → holds c l i ≡ true → loadNode h keys a c l i t ≡ loaded c []
     unfolding loadNode
-    load-held c l i t e = rw e
+    load-cached c l i t e = rw e
 
-    path-held : (r o : ℕ) (c : List ℕ) → Fit h c → owner c (topSlot h) ≡ suc o → loadPath h keys a r p c ≡ loadLevels h keys a p h (tagFor c h) c []
+    path-cached : (r o : ℕ) (c : List ℕ) → Fit h c → owner c (topSlot h) ≡ suc o → loadPath h keys a r p c ≡ loadLevels h keys a p h (tagFor c h) c []
     unfolding loadLevels tagFor
-    path-held r o c fit e = rw (load-held c h (onPath p h) r (top-holds c fit o e), loadLevels)
+    path-cached r o c fit e = rw (load-cached c h (onPath p h) r (top-holds c fit o e), loadLevels)
 
     pub path-loads : (r : ℕ) (c : List ℕ) → Fit h c → LoadsIf (loadPath h keys a r p c)
     path-loads r c fit = go (owner c (topSlot h)) refl
@@ -356,5 +356,5 @@ module _ (h : ℕ) (low : 1 ≤ h) (high : h ≤ 3) (keys a : List ℕ) (whole :
         go : (o : ℕ) → owner c (topSlot h) ≡ o → LoadsIf (loadPath h keys a r p c)
         go zero e = loads-lean c (idle-empty c fit e) (loadPath h keys a r p c) (levels (suc h) r c [] (le-refl (suc h)) fit none (λ z. refl))
         go (suc o) e =
-            rw (path-held r o c fit e)
+            rw (path-cached r o c fit e)
             (loads-few c (loadLevels h keys a p h (tagFor c h) c []) (levels h (tagFor c h) c [] (omega arith) fit none (λ z. absurd (omega arith))))

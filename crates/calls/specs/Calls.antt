@@ -117,8 +117,8 @@ pub record Reading : Type 0 where
   pub called : Called
   pub output : List ℕ
 
-abbrev pub turnedAway : Called → List ℕ → Reading
-turnedAway k out = record { called = k; output = out }
+abbrev pub refusedRead : Called → List ℕ → Reading
+refusedRead k out = record { called = k; output = out }
 
 -- the output once the stores are made: as it was where they are cut
 unfoldable pub answered : ℕ → Module → List Store → Answer → List ℕ → List ℕ → List ℕ → Reading
@@ -131,10 +131,10 @@ readLoaded keys line allowance m out c x =
     cond (eqb (lineMinor c line) 0) (answered allowance m xs (Blank (length xs)) c (replicate 64 0) out)
     (cond (sideOk keys (m .array) c line)
     (answered allowance m xs (Done (length xs) 0) c (lineText keys (m .array) c line) out)
-    (turnedAway (refuse m 25 line 0) out))
+    (refusedRead (refuse m 25 line 0) out))
 
 unfoldable pub readPath : List ℕ → ℕ → ℕ → Module → List ℕ → Loaded → Reading
-readPath keys line allowance m out (differs l i) = turnedAway (refuse m 24 l i) out
+readPath keys line allowance m out (differs l i) = refusedRead (refuse m 24 l i) out
 readPath keys line allowance m out (loaded c x) = readLoaded keys line allowance m out c x
 
 -- the path of a line, in a module
@@ -143,17 +143,17 @@ pathOf keys line m = loadPath (depth (m .control)) keys (m .array) (root (m .con
 
 unfoldable pub readJudged : ℕ → List ℕ → ℕ → ℕ → Module → List ℕ → Reading
 readJudged zero keys line allowance m out = readPath keys line allowance m out (pathOf keys line m)
-readJudged (suc n) keys line allowance m out = turnedAway (refuse m (suc n) 0 0) out
+readJudged (suc n) keys line allowance m out = refusedRead (refuse m (suc n) 0 0) out
 
 abbrev pub read : List ℕ → ℕ → ℕ → List ℕ → Module → Reading
 read keys line allowance out m = readJudged (accessRefusal keys line out m) keys line allowance m out
 
 -- Writing
 
--- the counter block with the line's minor raised by one
 abbrev pub newMinor : List ℕ → ℕ → ℕ
 newMinor c line = suc (lineMinor c line)
 
+-- the counter block with the line's minor raised by one
 unfoldable pub newBlock : List ℕ → ℕ → List ℕ
 newBlock c line = withMinor (pageBlock c line) (placeOf line) (newMinor c line)
 
@@ -293,11 +293,11 @@ recover keys allowance m = recoverJudged (recoveryRefusal keys m) keys allowance
 
 -- Format
 
--- the tree of counts: level 0 has blocks of major 0 with the counts as minors, a node the tags of its children
 unfoldable pub countsFrom : (ℕ → ℕ) → ℕ → ℕ → List ℕ
 countsFrom f n zero = []
 countsFrom f n (suc k) = f n ∷ countsFrom f (suc n) k
 
+-- the tree of counts: level 0 has blocks of major 0 with the counts as minors, a node the tags of its children
 unfoldable pub freshNode : List ℕ → (ℕ → ℕ) → ℕ → ℕ → List ℕ
 freshNode keys f zero i = counterBlock 0 (countsFrom f (64 * i) 64)
 freshNode keys f (suc l) i = childTags keys l (freshNode keys f l) i
@@ -307,7 +307,7 @@ unfoldable pub nodeCells : List ℕ → ℕ → ℕ → ℕ → List ℕ
 nodeCells keys l i zero = []
 nodeCells keys l i (suc n) = freshNode keys (λ x. 0) l i ++ replicate 8 0 ++ nodeCells keys l (suc i) n
 
--- the lowest n levels above cells of the levels from n on
+-- the cells of the levels below l, then rest
 unfoldable pub levelCells : List ℕ → ℕ → ℕ → List ℕ → List ℕ
 levelCells keys h zero rest = rest
 levelCells keys h (suc l) rest = levelCells keys h l (nodeCells keys l 0 (nodes h l) ++ rest)
@@ -358,5 +358,6 @@ codeForC buffer a = cond (eqb (length buffer) 24) (codeOf a) 107
 unfoldable pub bufferForC : List ℕ → Answer → List ℕ
 bufferForC buffer a = cond (eqb (length buffer) 24) (bytesOf 8 (valuesOf a)) buffer
 
-unfoldable pub moduleForC : List ℕ → Module → Module → Module
-moduleForC buffer before after = cond (eqb (length buffer) 24) after before
+-- the array, the control record, the cache and the output: as before the call, or as the call leaves them
+unfoldable pub leftForC : {A : Type 0} → List ℕ → A → A → A
+leftForC buffer before after = cond (eqb (length buffer) 24) after before

@@ -17,7 +17,7 @@ ghost use Rattle.control.specs.Control.{
 use words::load32;
 use words::load64;
 
-// Where the fields are; PLACES is the first place of the queue.
+// Where the fields are; PLACES is the first place of the queue, LENGTH the record's own length.
 pub const DEPTH: usize = 5;
 
 pub const ROOT: usize = 7;
@@ -27,6 +27,8 @@ pub const COUNT: usize = 15;
 pub const NEW_ROOT: usize = 16;
 
 pub const PLACES: usize = 24;
+
+pub const LENGTH: usize = 664;
 
 fn wide(x: u8) -> usize
     ensures { λ r. ⌜ (r ≡ x) × (r < 256) ⌝ }

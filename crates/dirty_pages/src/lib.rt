@@ -11,7 +11,7 @@ use answer::Answer;
 fn refusal(control: &[u8], cache: &[u8], out: &[u8]) -> u64
     ensures { λ r. ⌜ r ≡ listRefusal (now (control .entry)) (now (cache .entry)) (now (out .entry)) ⌝ }
 {
-    if control.len() != 664 {
+    if control.len() != control::LENGTH {
         return 3;
     }
     if !control::valid(control) {

@@ -1,6 +1,6 @@
 -- The bench listing as a history is allowed, leaves the listing's last module, and makes the book that the listing shows. Assumes nothing.
-use mathlib.Core.Path.{_≡_, refl, sym, ap, _∙_}
-use mathlib.Core.Logic.{inl}
+use mathlib.Core.Path.{_≡_, refl, sym, ap, subst, _∙_}
+use mathlib.Core.Logic.{inl, inr}
 use mathlib.Core.Bool.{Bool, true, false}
 use mathlib.Core.List.{List, [], _∷_}
 use mathlib.Core.Option.{some, none}
@@ -14,8 +14,8 @@ use Rattle.answer.specs.Answer.{storesOf}
 use Rattle.cache.specs.Cache.{emptyCache}
 use Rattle.calls.proofs.Run.{run}
 use Rattle.calls.proofs.Sparse.{sparse, upTo}
-use Rattle.calls.specs.Calls.{Module, Called, Reading, write, read, recover}
-use Rattle.calls.specs.History.{Event, reads, writes, recovers, powerCut, Book, emptyBook, entered, changed, step, bookAfter, bookOf, moduleAfter, commits, AreBytes, Admitted, awaits, Allowed, counter, storedMinor}
+use Rattle.calls.specs.Calls.{Module, Called, Reading, write, read, recover, total, countsFrom}
+use Rattle.calls.specs.History.{Event, reads, writes, recovers, lists, powerCut, Book, emptyBook, entered, changed, step, bookAfter, bookOf, moduleAfter, commits, AreBytes, Admitted, awaits, Allowed, counter, storedMinor, Gives}
 use Rattle.examples.specs.Bench.{keys, unlimited, powered}
 use Rattle.bench_listing.specs.States.{m0, m1, m2, m3, m4, m4x, m5, m6, m7, m7x, m8, m9, m10, m10x, m11, m12, m13}
 use Rattle.bench_listing.proofs.Steps.{step1, step2, step3, step4, lost4, step5, step6, step7, lost7, step8, step9, step10, lost10, step11, step12, step13}
@@ -142,14 +142,49 @@ committed : book .writes ≡ 4
 unfolding book entered changed emptyBook
 committed = refl
 
--- the counter of line 0 after the last recovery, and its minor in the array
-counted : counter 1 m11 0 ≡ 4
-unfolding run sparse counter m11
-counted = refl
+-- the counter of line 0 after the first and the last recovery, and its minor in the array
+counted5 : counter 1 m5 0 ≡ 3
+unfolding run sparse counter m5
+counted5 = refl
 
-stored : storedMinor 1 m11 0 ≡ 4
+stored5 : storedMinor 1 m5 0 ≡ 0
+unfolding run sparse storedMinor m5
+stored5 = refl
+
+-- what that recovery tells, Done 3 3, over the lines of page 0
+told5 : total (countsFrom (λ n. counter 1 m5 n - storedMinor 1 m5 n) 0 64) ≡ 3
+unfolding run sparse counter storedMinor m5
+told5 = refl
+
+counted11 : counter 1 m11 0 ≡ 4
+unfolding run sparse counter m11
+counted11 = refl
+
+stored11 : storedMinor 1 m11 0 ≡ 4
 unfolding run sparse storedMinor m11
-stored = refl
+stored11 = refl
+
+-- what reads give after it, by the book
+gives0 : Gives (book .text 0) (read keys 0 unlimited (replicate 64 0) m11)
+unfolding book entered changed emptyBook Gives storesOf
+gives0 = subst (λ (r : Reading). Gives (some (replicate 64 20)) r) (sym step12) (refl, refl)
+
+gives64 : Gives (book .text 64) (read keys 64 unlimited (replicate 64 0) m12)
+unfolding book entered changed emptyBook Gives storesOf
+gives64 = subst (λ (r : Reading). Gives none r) (sym step13) (refl, refl)
+
+-- events beside the listing's: a list, and a read with other keys, which is refused
+may-list : Admitted keys false m0 (lists (replicate 32 9))
+unfolding Admitted
+may-list = (refl, bytes (replicate 32 9) refl)
+
+other-keys : (read [] 0 unlimited (replicate 64 0) m0) .called .answer ≡ Refused 2 0 0 0
+unfolding run
+other-keys = refl
+
+may-mistake : Admitted keys false m0 (reads [] 0 unlimited (replicate 64 0))
+unfolding Admitted
+may-mistake = (refl, inr (2, 0, 0, other-keys), bytes [] refl, lit< tt, lit< tt, bytes (replicate 64 0) refl)
 
 -- ---- it is allowed
 

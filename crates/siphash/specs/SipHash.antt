@@ -7,19 +7,19 @@ use lib.Bits.{bitXor}
 use Rattle.words.specs.Bytes.{fromLe, wordsOf}
 use Rattle.words.specs.Rotate.{addW, rotl}
 
--- 2.1: the state of a key's two words
+-- initialization: the state of a key's two words
 unfoldable pub initial : ℕ → ℕ → List ℕ
 initial k0 k1 =
     bitXor k0 0x736f6d6570736575 ∷ bitXor k1 0x646f72616e646f6d ∷ bitXor k0 0x6c7967656e657261 ∷ bitXor k1 0x7465646279746573 ∷ []
 
--- 2.2: the message as words: the last has the bytes that are left, zeros, and the length modulo 256
+-- compression: the message as words: the last has the bytes that are left, zeros, and the length modulo 256
 unfoldable pub lastWord : List ℕ → ℕ
 lastWord m = fromLe (drop (length m / 8 * 8) m) + length m % 256 * 2 ^ 56
 
 unfoldable pub messageWords : List ℕ → List ℕ
 messageWords m = wordsOf 8 (length m / 8) m ++ (lastWord m ∷ [])
 
--- 2.4: SipRound
+-- one SipRound
 unfoldable pub sipRound : List ℕ → List ℕ
 sipRound v =
     let v0 = addW 64 (getD v 0 0) (getD v 1 0) in
@@ -32,7 +32,7 @@ sipRound v =
     let w3 = bitXor (rotl 64 21 v3) w0 in
     w0 ∷ w1 ∷ rotl 64 32 w2 ∷ w3 ∷ []
 
--- 2.2: one word: v3 ^= m, two rounds, v0 ^= m
+-- compression of one word: v3 ^= m, two rounds, v0 ^= m
 unfoldable pub compress : List ℕ → ℕ → List ℕ
 compress v m =
     let r = sipRound (sipRound (getD v 0 0 ∷ getD v 1 0 ∷ getD v 2 0 ∷ bitXor (getD v 3 0) m ∷ [])) in
@@ -42,7 +42,7 @@ unfoldable pub compressAll : List ℕ → List ℕ → List ℕ
 compressAll v [] = v
 compressAll v (m ∷ ms) = compressAll (compress v m) ms
 
--- 2.3: v2 ^= ff hex, four rounds, and the four words joined by XOR
+-- finalization: v2 ^= ff hex, four rounds, and the four words joined by XOR
 unfoldable pub finalize : List ℕ → ℕ
 finalize v =
     let r = sipRound (sipRound (sipRound (sipRound (getD v 0 0 ∷ getD v 1 0 ∷ bitXor (getD v 2 0) 0xff ∷ getD v 3 0 ∷ [])))) in
