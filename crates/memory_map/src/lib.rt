@@ -2,6 +2,7 @@
 ghost use mathlib.Core.Path.{_≡_};
 ghost use Prim.Native.Nat.{_+_, _<_, _≤_};
 ghost use Rattle.memory_map.specs.Map.{
+  line,
   node,
   shadow,
   cellOf,
@@ -74,6 +75,12 @@ pub fn slots(h: usize) -> usize
     ensures { λ r. ⌜ r ≡ slotsOf h ⌝ }
 {
     4 + 2 * h
+}
+
+pub fn line_cell(h: usize, n: usize) -> usize
+    ensures { λ r. ⌜ r ≡ cellOf h (line n) ⌝ }
+{
+    n
 }
 
 pub fn node_cell(h: usize, l: usize, i: usize) -> usize
