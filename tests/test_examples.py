@@ -221,7 +221,7 @@ def theorems_text(made, mark=""):
     names, text = [name for name, _ in made.modules] + made.lent, ""
     for name, statement, proof in made.theorems:
         words = statement.replace("(", " ").replace(")", " ").split()
-        opened = [n for n in ["powered"] + names if n in words]
+        opened = [n for n in ["powered", "seen"] + names if n in words]
         text += "\n%s%s :\n    %s\nunfolding run sparse upTo%s\n%s = %s\n" % (
             mark, name, statement, "".join(" " + n for n in opened), name, proof)
     return text
@@ -439,7 +439,7 @@ def cut_examples():
     for allowance in range(full + 1):
         answer, after = writes.write("cut%d" % allowance, keys(), number(256), fill(64, 5), number(allowance), start, "after%d" % allowance)
         assert (answer.kind, answer.stores) == (("cut", allowance) if allowance < full else ("done", full))
-        recoveries = early if allowance < 5 else middle if allowance < 9 else late
+        recoveries = early if allowance < 6 else middle if allowance < 9 else late
         before = recoveries.borrow("after%d" % allowance, after.value)
         answer, _ = recoveries.recover("recover%d" % allowance, keys(), number(UNLIMITED), before.lost(), "rebuilt%d" % allowance)
         assert answer.kind == "done"
@@ -456,43 +456,80 @@ def cut_examples():
     return made
 
 
-# ---- depth 2: a write that loads and evicts on two levels, and the steps of the recovery that rebuilds them
+# ---- the steps of a recovery: what each rebuilds in the cache
+
+def rebuilding(made, before, depth, first):
+    """Recovery after a power failure of the module before: its counter blocks, and the nodes from slot first on."""
+    answer, module = model.recover_call(KEYS, 0, before.lost().value)
+    assert answer == model.Answer("done", 0, 0, 1, 0)
+    owners = [slot.owner for slot in model.slots_of_cache(module.cache)]
+
+    def front(slots):
+        return literal(module.cache[:slots * 73] + bytes(len(module.cache) - slots * 73))
+    array = "%d (%s .array)" % (depth, before.name), "%d %s (%s .array)" % (depth, K.text, before.name)
+    made.theorem("blocks", "rebuildBlocks %s 0 (%s) (emptyCache %d) 0 ≡ rebuilt (%s) 1" % (array[0], octets(owners[:4]), depth, front(4)))
+    made.theorem("nodes", "rebuildNodes %s %d (%s) (%s) ≡ %s" % (array[1], first, octets(owners[first:]), front(first), literal(module.cache)))
+
+
+REBUILDING = """use Rattle.cache.specs.Cache.{emptyCache}
+use Rattle.calls.specs.Calls.{Rebuilt, rebuilt, rebuildBlocks, rebuildNodes}
+"""
+
+
+# ---- depth 2: a write that loads and evicts on two levels, and what recovery rebuilds of the blocks and of the top
 
 def deep_examples():
     made = File()
     start = made.name("start", written(formatted(2), (0, 1), (1024, 2)))
     answer, after = made.write("written", keys(), number(7), fill(64, 3), number(13), start, "after")
     assert answer == model.Answer("done", 0, 13, 0, 0)
-    answer, module = model.recover_call(KEYS, 0, after.lost().value)
-    assert answer == model.Answer("done", 0, 0, 1, 0)
-    owners = [slot.owner for slot in model.slots_of_cache(module.cache)]
-    blocks = literal(module.cache[:4 * 73] + bytes(4 * 73))
-    made.theorem("blocks", "rebuildBlocks 2 (after .array) 0 (%s) (emptyCache 2) 0 ≡ rebuilt (%s) 1" % (octets(owners[:4]), blocks))
-    made.theorem("nodes", "rebuildNodes 2 %s (after .array) 4 (%s) (%s) ≡ %s" % (K.text, octets(owners[4:]), blocks, literal(module.cache)))
+    rebuilding(made, after, 2, 6)
     return {
         "crates/deep_examples/specs/States.antt": states_file(made, "Modules of depth 2."),
         "crates/deep_examples/proofs/Deep.antt": theorems_file(
-            made, "deep_examples", "Depth 2: a write that evicts a counter block and a node, and what recovery rebuilds after it.",
-            "use Rattle.cache.specs.Cache.{emptyCache}\n"
-            "use Rattle.calls.specs.Calls.{Rebuilt, rebuilt, rebuildBlocks, rebuildNodes}\n"),
+            made, "deep_examples", "Depth 2: a write that evicts a counter block and a node, and what recovery rebuilds after it.", REBUILDING),
     }
 
 
-# ---- two examples in the crate of the definitions itself, which its must-fail edits are held against
+# ---- examples in the crate of the definitions itself, which its must-fail edits are held against: small, since a run
+# that fails takes twice as long as one that does not
 
 def own_examples():
     made = File()
     start = made.name("start", before_eviction())
-    answer, _ = made.write("written", keys(), number(256), fill(64, 5), number(19), start, "after")
+    answer, after = model.write_call(KEYS, 256, bytes([5]) * 64, 19, start.value)
     assert answer == model.Answer("done", 0, 11, 0, 0)
-    answer, _ = made.recover("recovered", keys(), number(0), start.lost(), "rebuilt")
-    assert answer == model.Answer("done", 0, 0, 1, 0)
-    text = MADE % "A write with an eviction and a stop-loss store, and a recovery, run." + IMPORTS
-    text = text.replace("use Rattle.examples.specs.Bench.{unlimited}\n", "")
-    text = text.replace("Rattle.calls.specs", "Rattle.calls.specs").replace("Rattle.calls.proofs", "Rattle.calls.proofs")
-    for name, value in made.modules:
-        text += "\n%s : Module\n%s =\n    %s\n" % (name, name, module_text(value))
-    return {"crates/calls/proofs/Examples.antt": text + theorems_text(made)}
+    made.theorem("written", "seen 256 (write %s 256 %s 19 start) ≡ record { answer = %s; cache = %s; cell = %s }" % (
+        K.text, fill(64, 5).text, answer_text(answer), literal(after.cache), literal(after.array[72 * 256:72 * 257])))
+    rebuilding(made, start, 1, 4)
+    return {"crates/calls/proofs/Examples.antt": OWN % module_text(start.value) + theorems_text(made)}
+
+
+OWN = MADE % "A write with an eviction and a stop-loss store, and what a recovery rebuilds, run." + """use mathlib.Core.Path.{_≡_, refl}
+use mathlib.Core.List.{List, [], _∷_}
+use Prim.Native.Nat.{ℕ, _*_}
+use lib.ListN.{replicate}
+use Rattle.words.specs.Bytes.{part}
+use Rattle.answer.specs.declared.Answer.{Answer}
+use Rattle.answer.specs.declared.Answer.the-variants.{Done}
+use Rattle.cache.specs.Cache.{emptyCache}
+use Rattle.calls.specs.Calls.{Module, Called, write, Rebuilt, rebuilt, rebuildBlocks, rebuildNodes}
+use Rattle.calls.proofs.Run.{run}
+use Rattle.calls.proofs.Sparse.{sparse, upTo}
+
+-- what a call answers, and what it leaves in the cache and in one cell
+record Seen : Type 0 where
+  answer : Answer
+  cache : List ℕ
+  cell : List ℕ
+
+seen : ℕ → Called → Seen
+seen n c = record { answer = c .answer; cache = c .after .cache; cell = part (c .after .array) (72 * n) 72 }
+
+start : Module
+start =
+    %s
+"""
 
 
 def main(words):

@@ -9,8 +9,8 @@ use Rattle.calls.specs.Calls.{Module, read, write, recover, format}
 use Rattle.examples.specs.Bench.{unlimited}
 use Rattle.calls.proofs.Run.{run}
 use Rattle.calls.proofs.Sparse.{sparse, upTo}
-use Rattle.cut_examples.specs.States.{after0, after1, after2, after3, after4}
-use Rattle.recovery_early.specs.States.{rebuilt0, rebuilt1, rebuilt2, rebuilt3, rebuilt4}
+use Rattle.cut_examples.specs.States.{after0, after1, after2, after3, after4, after5}
+use Rattle.recovery_early.specs.States.{rebuilt0, rebuilt1, rebuilt2, rebuilt3, rebuilt4, rebuilt5}
 
 recover0 :
     recover (upTo 48 0) unlimited (record { array = after0 .array; control = after0 .control; cache = replicate 438 0 }) ≡ record { answer = Done 0 1; after = rebuilt0 }
@@ -36,3 +36,8 @@ recover4 :
     recover (upTo 48 0) unlimited (record { array = after4 .array; control = after4 .control; cache = replicate 438 0 }) ≡ record { answer = Done 0 1; after = rebuilt4 }
 unfolding run sparse upTo rebuilt4 after4
 recover4 = refl
+
+recover5 :
+    recover (upTo 48 0) unlimited (record { array = after5 .array; control = after5 .control; cache = replicate 438 0 }) ≡ record { answer = Done 6 0; after = rebuilt5 }
+unfolding run sparse upTo rebuilt5 after5
+recover5 = refl

@@ -9,13 +9,8 @@ use Rattle.calls.specs.Calls.{Module, read, write, recover, format}
 use Rattle.examples.specs.Bench.{unlimited}
 use Rattle.calls.proofs.Run.{run}
 use Rattle.calls.proofs.Sparse.{sparse, upTo}
-use Rattle.cut_examples.specs.States.{after5, after6, after7, after8}
-use Rattle.recovery_middle.specs.States.{rebuilt5, rebuilt6, rebuilt7, rebuilt8}
-
-recover5 :
-    recover (upTo 48 0) unlimited (record { array = after5 .array; control = after5 .control; cache = replicate 438 0 }) ≡ record { answer = Done 6 0; after = rebuilt5 }
-unfolding run sparse upTo rebuilt5 after5
-recover5 = refl
+use Rattle.cut_examples.specs.States.{after6, after7, after8}
+use Rattle.recovery_middle.specs.States.{rebuilt6, rebuilt7, rebuilt8}
 
 recover6 :
     recover (upTo 48 0) unlimited (record { array = after6 .array; control = after6 .control; cache = replicate 438 0 }) ≡ record { answer = Done 6 0; after = rebuilt6 }
