@@ -18,9 +18,10 @@ use Rattle.words.proofs.Digits.{Below, below-cons, below-append, below-take, be
 use Rattle.words.proofs.Parts.{part-part, length-put, below-put}
 use Rattle.words.proofs.Puts.{getD-part, part-put-same, part-put-before, part-put-after}
 use Rattle.words.proofs.Zeros.{below-zeros, number-zeros}
-use Rattle.memory_map.specs.Map.{slots, cacheLength, cellOf, nodes, slotOf, levelOf, belongs}
+use Rattle.memory_map.specs.Map.{slots, cellOf, nodes}
+use Rattle.slot_map.specs.Slots.{cacheLength, slotOf, levelOf, belongs}
 use Rattle.memory_map.specs.Map.Item.{node}
-use Rattle.memory_map.proofs.Laws.{slot-within, level-slot, belongs-node}
+use Rattle.slot_map.proofs.Laws.{slot-within, level-slot, belongs-node}
 use Rattle.cache.specs.Cache.{owner, dirty, content, withSlot, emptyCache, cellContent, from, cacheOwners, topSlot, stray, anyOwner, missingTop, orElse, badSlot, flagsFormed, isNothing, formed, holds, current}
 use Rattle.cache.proofs.Steps.{place-empty, place-filled, flag-empty, flag-filled}
 use Rattle.cache.specs.declared.Found.{Found}

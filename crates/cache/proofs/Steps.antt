@@ -10,10 +10,11 @@ use lib.Dec.{leb, eqb}
 use lib.ListN.{length, take, drop, getD, set, length-take, drop-of-length-le}
 use lib.Seq.{drop-cons, take-suc-set, getD-take, length-take-le}
 use borrow.Author.Tests.{eq-eqb, ne-eqb}
-use Rattle.memory_map.specs.Map.{slots, shadowStart, cellOf, belongs}
+use Rattle.memory_map.specs.Map.{slots, shadowStart, cellOf}
+use Rattle.slot_map.specs.Slots.{belongs}
 use Rattle.memory_map.specs.Map.Item.{shadow}
 use Rattle.words.specs.Bytes.{fromLe, part}
-use Rattle.memory_map.proofs.Laws.{slot-within}
+use Rattle.slot_map.proofs.Laws.{slot-within}
 use Rattle.cache.specs.Cache.{owner, dirty, from, topSlot, stray, anyOwner, missingTop, orElse, badSlot, flagsFormed, shadowOwner, cacheOwners, isNothing, formed}
 use Rattle.cache.specs.declared.Found.{Found}
 use Rattle.cache.specs.declared.Found.the-variants.{Nothing, At}

@@ -6,7 +6,8 @@ use mathlib.Core.List.{List, [], _∷_, _++_}
 use lib.Dec.{leb, eqb}
 use lib.ListN.{getD, replicate}
 use Rattle.words.specs.Bytes.{fromLe, toLe, part, put}
-use Rattle.memory_map.specs.Map.{slots, cacheLength, cellOf, slotOf, belongs}
+use Rattle.memory_map.specs.Map.{slots, cellOf}
+use Rattle.slot_map.specs.Slots.{cacheLength, slotOf, belongs}
 use Rattle.memory_map.specs.Map.Item.{node, shadow}
 use Rattle.cache.specs.declared.Found.{Found}
 use Rattle.cache.specs.declared.Found.the-variants.{Nothing, At}

@@ -3,7 +3,8 @@ ghost use mathlib.Core.Path.{_≡_};
 ghost use Prim.Native.Nat.{_+_, _*_, _<_, _≤_};
 ghost use lib.ListN.{length, take};
 ghost use Rattle.words.specs.Bytes.{fromLe, part};
-ghost use Rattle.memory_map.specs.Map.{arrayLength, cacheLength, slots as slotsOf};
+ghost use Rattle.memory_map.specs.Map.{arrayLength, slots as slotsOf};
+ghost use Rattle.slot_map.specs.Slots.{cacheLength};
 ghost use Rattle.cache.specs.Cache.{
   from,
   shadowOwners,
@@ -65,7 +66,7 @@ fn first_stray(h: usize, owners: [u64; 10]) -> Found
     while s < n {
         let o = owners[s] as usize;
         if o != 0 {
-            if !memory_map::belongs(h, s, o) {
+            if !slot_map::belongs(h, s, o) {
                 return Found::At(s);
             }
         }
@@ -97,7 +98,7 @@ fn bad_slot(h: usize, owners: [u64; 10]) -> Found
     if let Found::At(s) = found {
         return Found::At(s);
     }
-    let top = memory_map::slot_of(h, 0);
+    let top = slot_map::slot_of(h, 0);
     if owners[top] != 0 {
         return Found::Nothing;
     }

@@ -7,7 +7,8 @@ use lib.Dec.{lit<}
 use lib.ListN.{length, replicate, length-append, length-replicate}
 use Rattle.words.specs.Bytes.{digits, toLe}
 use Rattle.words.proofs.Digits.{Below, below-nil, below-cons, below-append, below-digits, length-digits}
-use Rattle.memory_map.specs.Map.{lines, nodes, levelStart, slots, shadowStart, cells, arrayLength, cacheLength}
+use Rattle.memory_map.specs.Map.{lines, nodes, levelStart, slots, shadowStart, cells, arrayLength}
+use Rattle.slot_map.specs.Slots.{cacheLength}
 use Rattle.memory_map.proofs.Laws.{level-next}
 use Rattle.counter.specs.Counter.{counterBlock}
 use Rattle.counter.proofs.Laws.{length-counterBlock, below-counterBlock}

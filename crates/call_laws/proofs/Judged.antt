@@ -7,7 +7,8 @@ use native.Mathlib.Omega.{arith}
 use lib.Dec.{eqb, leb, ltb}
 use lib.ListN.{length}
 use borrow.Author.Tests.{not-false, eqb-true, leb-true, leb-false, ltb-false}
-use Rattle.memory_map.specs.Map.{pages, lines, pageOf, arrayLength, cacheLength}
+use Rattle.memory_map.specs.Map.{pages, lines, pageOf, arrayLength}
+use Rattle.slot_map.specs.Slots.{cacheLength}
 use Rattle.control.specs.Control.{controlLength, depth, count, valid, pending}
 use Rattle.control.proofs.Laws.{Head, valid-parts}
 use Rattle.cache.specs.Cache.{formed}

@@ -10,11 +10,13 @@ use lib.ListN.{length, replicate, length-append, length-replicate}
 use borrow.Author.Tests.{lt-ltb}
 use Rattle.words.specs.Bytes.{toLe, part}
 use Rattle.words.proofs.Digits.{Below, below-append, below-cons, below-digits, length-digits}
-use Rattle.memory_map.specs.Map.{cells, arrayLength, cacheLength, lines, pages, pageOf, placeOf, slotOf, nodes, InMap, cellOf}
+use Rattle.memory_map.specs.Map.{cells, arrayLength, lines, pages, pageOf, placeOf, nodes, InMap, cellOf}
+use Rattle.slot_map.specs.Slots.{cacheLength, slotOf}
 use Rattle.words.proofs.Parts.{length-put, below-put}
 use Rattle.tag.specs.Tag.{nodeTag, dataTag}
 use Rattle.memory_map.specs.Map.Item.{line, node}
-use Rattle.memory_map.proofs.Laws.{cells-small, slot-within, cell-within}
+use Rattle.memory_map.proofs.Laws.{cells-small, cell-within}
+use Rattle.slot_map.proofs.Laws.{slot-within}
 use Rattle.control.specs.Control.{Cell, controlLength, depth, count, root, inMap, queue, valid}
 use Rattle.control.proofs.Laws.{Head, valid-parts}
 use Rattle.cache.specs.Cache.{formed, content, withSlot, cellContent}

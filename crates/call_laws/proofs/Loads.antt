@@ -15,9 +15,11 @@ use Rattle.words.specs.Bytes.{toLe}
 use Rattle.words.proofs.Digits.{Below, below-append, below-digits, below-take, below-drop, pow-pos, length-digits}
 use Rattle.words.proofs.Parts.{length-part}
 use Rattle.words.proofs.Zeros.{below-zeros}
-use Rattle.memory_map.specs.Map.{pages, nodes, slots, cells, arrayLength, cacheLength, cellOf, slotOf, levelOf, InMap, Item, belongs}
+use Rattle.memory_map.specs.Map.{pages, nodes, slots, cells, arrayLength, cellOf, InMap, Item}
+use Rattle.slot_map.specs.Slots.{cacheLength, slotOf, levelOf, belongs}
 use Rattle.memory_map.specs.Map.Item.{line, node, shadow}
-use Rattle.memory_map.proofs.Laws.{cell-within, cells-small, slot-within, level-slot, belongs-node, node-belongs, level-shadow, shadow-cells}
+use Rattle.memory_map.proofs.Laws.{cell-within, cells-small, level-shadow, shadow-cells}
+use Rattle.slot_map.proofs.Laws.{slot-within, level-slot, belongs-node, node-belongs}
 use Rattle.tag.specs.Tag.{nodeTag}
 use Rattle.control.specs.Control.{Cell}
 use Rattle.cache.specs.Cache.{owner, dirty, content, withSlot, cellContent, holds, topSlot}

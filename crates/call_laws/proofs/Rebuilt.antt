@@ -11,7 +11,8 @@ use lib.ListN.{length, take, drop, getD, length-append, length-take, length-drop
 use Rattle.words.specs.Bytes.{toLe, part}
 use Rattle.words.proofs.Digits.{Below, below-nil, below-append, below-digits, length-digits}
 use Rattle.words.proofs.Puts.{getD-part}
-use Rattle.memory_map.specs.Map.{cells, slots, arrayLength, cacheLength, levelOf, cellOf}
+use Rattle.memory_map.specs.Map.{cells, slots, arrayLength, cellOf}
+use Rattle.slot_map.specs.Slots.{cacheLength, levelOf}
 use Rattle.memory_map.specs.Map.Item.{node}
 use Rattle.counter.specs.Counter.{major, minors, counterBlock}
 use Rattle.counter.proofs.Laws.{length-counterBlock, below-counterBlock}

@@ -8,7 +8,8 @@ use Rattle.chacha20.specs.ChaCha20.{quarter, quarterRound, columnRound, diagona
 use Rattle.control.specs.Control.{depth, root, count, newRoot, placeOf, places, queue, inMap, validHead, valid, freshControl}
 use Rattle.counter.specs.Counter.{major, minors, counterBlock, withMinor, forward}
 use Rattle.journal.specs.Journal.{store, storeAll, stages, finish, batchStores, pendingStores}
-use Rattle.memory_map.specs.Map.{pages, lines, nodes, levelStart, slots, shadowStart, cells, arrayLength, cacheLength, cellOf, InMap, slotOf, levelOf, belongs}
+use Rattle.memory_map.specs.Map.{pages, lines, nodes, levelStart, slots, shadowStart, cells, arrayLength, cellOf, InMap}
+use Rattle.slot_map.specs.Slots.{cacheLength, slotOf, levelOf, belongs}
 use Rattle.pad.specs.Pad.{pad, xorBytes}
 use Rattle.siphash.specs.SipHash.{initial, lastWord, messageWords, sipRound, compress, compressAll, finalize, sipHash}
 use Rattle.tag.specs.Tag.{nodeInput, nodeTag, dataInput, dataTag}

@@ -8,7 +8,8 @@ use mathlib.Core.Option.{Option, none, some}
 use lib.Dec.{leb, eqb}
 use lib.ListN.{length, getD, replicate, take, drop}
 use Rattle.words.specs.Bytes.{fromLe, toLe, part, bytesOf}
-use Rattle.memory_map.specs.Map.{pageOf, placeOf, lines, nodes, slots, arrayLength, cacheLength, cellOf, slotOf, levelOf}
+use Rattle.memory_map.specs.Map.{pageOf, placeOf, lines, nodes, slots, arrayLength, cellOf}
+use Rattle.slot_map.specs.Slots.{cacheLength, slotOf, levelOf}
 use Rattle.memory_map.specs.Map.Item.{node}
 use Rattle.counter.specs.Counter.{major, minors, minor, counterBlock, withMinor, phaseOf, forward}
 use Rattle.pad.specs.Pad.{pad, xorBytes}

@@ -6,7 +6,8 @@ use mathlib.Core.List.{List, [], _∷_, _++_}
 use lib.Dec.{eqb}
 use lib.ListN.{getD, replicate}
 use Rattle.words.specs.Bytes.{fromLe, toLe, part, put}
-use Rattle.memory_map.specs.Map.{cellOf, slotOf}
+use Rattle.memory_map.specs.Map.{cellOf}
+use Rattle.slot_map.specs.Slots.{slotOf}
 use Rattle.memory_map.specs.Map.Item.{node, shadow}
 use Rattle.tag.specs.Tag.{nodeTag}
 use Rattle.control.specs.Control.{Cell}

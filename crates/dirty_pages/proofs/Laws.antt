@@ -13,7 +13,8 @@ use Rattle.words.specs.Bytes.{digits, toLe, put, bytesOf}
 use Rattle.words.proofs.Digits.{length-digits}
 use Rattle.words.proofs.Parts.{length-put, put-nil, put-append}
 use Rattle.words.proofs.Words.{length-bytes, put-word}
-use Rattle.memory_map.specs.Map.{slots, cacheLength}
+use Rattle.memory_map.specs.Map.{slots}
+use Rattle.slot_map.specs.Slots.{cacheLength}
 use Rattle.answer.specs.declared.Answer.the-variants.{Done, Refused}
 use Rattle.control.specs.Control.{controlLength, depth, valid}
 use Rattle.cache.specs.Cache.{owner, dirty, formed}

@@ -18,7 +18,7 @@ fn refusal(control: &[u8], cache: &[u8], out: &[u8]) -> u64
         return 21;
     }
     let h = control::depth(control);
-    let size = memory_map::cache_length(h);
+    let size = slot_map::cache_length(h);
     if cache.len() != size {
         return 5;
     }

@@ -7,7 +7,8 @@ use mathlib.Core.Option.{some, none}
 use Prim.Native.Nat.{ℕ, zero, suc, _-_, _^_, _<_}
 use lib.Dec.{lit<}
 use lib.ListN.{length, replicate}
-use Rattle.memory_map.specs.Map.{slots, cacheLength}
+use Rattle.memory_map.specs.Map.{slots}
+use Rattle.slot_map.specs.Slots.{cacheLength}
 use Rattle.answer.specs.declared.Answer.{Answer}
 use Rattle.answer.specs.declared.Answer.the-variants.{Done, Blank, Cut, Refused}
 use Rattle.answer.specs.Answer.{storesOf}

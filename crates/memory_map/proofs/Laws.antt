@@ -1,17 +1,13 @@
--- Laws of the map: different items have different cells, all within the array; slots and levels fit each other.
--- Assumes nothing.
-use mathlib.Core.Path.{_≡_, refl, sym, ap, ap₂, _∙_, subst}
-use mathlib.Core.Logic.{_⊎_, inl, inr, ⊎-elim}
-use mathlib.Core.Bool.{Bool, true, false, _&&_, cond}
-use Prim.Native.Nat.{ℕ, zero, suc, _+_, _-_, _*_, _/_, _%_, _^_, _<_, _≤_, suc-le-suc, zero-le}
-use native.Mathlib.Nat.{le-refl, mod-lt, add-left-cancel}
+-- Laws of the map: different items have different cells, all within the array. Assumes nothing.
+use mathlib.Core.Path.{_≡_, refl, sym, ap, ap₂, subst}
+use mathlib.Core.Logic.{_⊎_, inl, inr}
+use Prim.Native.Nat.{ℕ, zero, suc, _+_, _-_, _*_, _%_, _^_, _<_, _≤_, suc-le-suc, zero-le}
+use native.Mathlib.Nat.{le-refl, add-left-cancel}
 use native.Mathlib.Decide.{le-ind}
 use native.Mathlib.Numerals.{add-one}
 use native.Mathlib.Omega.{arith}
-use lib.Dec.{T, ltb, eqb, ltb→lt, lt→ltb, eqb→eq, eqb-refl, lit<}
-use borrow.Author.Tests.{lt-ltb, le-ltb, eq-eqb, ne-eqb, ltb-true, eqb-true}
-use Rattle.words.proofs.Order.{lt-or-ge, lt-eq-gt}
-use Rattle.memory_map.specs.Map.{pages, lines, nodes, levelStart, slots, shadowStart, cells, arrayLength, cacheLength, Item, cellOf, InMap, slotOf, levelOf, belongs}
+use Rattle.words.proofs.Order.{lt-eq-gt}
+use Rattle.memory_map.specs.Map.{pages, lines, nodes, levelStart, slots, shadowStart, cells, Item, cellOf, InMap}
 use Rattle.memory_map.specs.Map.Item.{line, node, shadow}
 
 -- what holds at 0, 1, 2 and 3 holds up to 3
@@ -29,8 +25,6 @@ shift-eight = upTo3 (λ n. (1 * 2 ^ (3 * n)) % 2 ^ 64 ≡ 8 ^ n) refl refl refl 
 pub shift-lines : (h : ℕ) → h ≤ 3 → (64 * 2 ^ (3 * h)) % 2 ^ 64 ≡ lines h
 unfolding lines pages
 shift-lines = upTo3 (λ n. (64 * 2 ^ (3 * n)) % 2 ^ 64 ≡ lines n) refl refl refl refl
-
--- ---- cells
 
 pub level-mono : (h l k : ℕ) → l ≤ k → levelStart h l ≤ levelStart h k
 unfolding levelStart
@@ -59,6 +53,18 @@ cells-shadow h = omega arith
 pub shadow-cells : (h : ℕ) → shadowStart h ≤ cells h
 unfolding cells
 shadow-cells h = omega arith
+
+-- bounds of what the functions add, whatever level or depth they ask for
+pub start-small : {r h l : ℕ} → r ≡ levelStart h l → h ≤ 3 → l ≤ h + 1 → r ≤ 33363
+start-small {r} {h} {l} e p q = omega (arith, level-mono h l (suc h) (omega arith), cells-shadow h, cells-small h p)
+
+pub nodes-small : {r h : ℕ} (l : ℕ) → r ≡ nodes h l → h ≤ 3 → r ≤ 512
+unfolding nodes
+nodes-small {r} {h} l e p = omega (arith, upTo3 (λ n. 8 ^ n ≤ 512) (omega arith) (omega arith) (omega arith) (omega arith) (h - l) (omega arith))
+
+pub slots-small : {r h : ℕ} → r ≡ slots h → h ≤ 3 → r ≤ 10
+unfolding slots
+slots-small e p = omega arith
 
 pub cell-within : (h : ℕ) (x : Item) → InMap h x → cellOf h x < cells h
 unfolding InMap cellOf cells shadowStart
@@ -92,70 +98,6 @@ cell-injective h (shadow s) (line n) p q e = absurd (omega (arith, level-lines h
 cell-injective h (shadow s) (node l i) p q e = absurd (omega (arith, level-shadow h l i (q .0) (q .1)))
 cell-injective h (shadow s) (shadow t) p q e = ap shadow (add-left-cancel (levelStart h (suc h)) e)
 
--- ---- slots
-
-pub slot-within : (h l i : ℕ) → l ≤ h → slotOf l i < slots h
-unfolding slotOf slots
-slot-within h zero i p = omega arith
-slot-within h (suc l) i p = omega arith
-
-pub level-low : (s : ℕ) → s < 4 → levelOf s ≡ 0
-unfolding levelOf
-level-low s p = rw (lt-ltb s 4 p)
-
-pub level-high : (s : ℕ) → 4 ≤ s → levelOf s ≡ suc ((s - 4) / 2)
-unfolding levelOf
-level-high s p = rw (le-ltb s 4 p)
-
-pub level-slot : (l i : ℕ) → levelOf (slotOf l i) ≡ l
-unfolding slotOf
-level-slot zero i = level-low (i % 4) (mod-lt i (lit< tt))
-level-slot (suc l) i = level-high (4 + 2 * l + i % 2) (omega arith) ∙ ap suc (omega arith)
-
-pub level-within : (h s : ℕ) → s < slots h → levelOf s ≤ h
-unfolding slots
-level-within h s p = go (lt-or-ge s 4)
-  where
-    go : (s < 4) ⊎ (4 ≤ s) → levelOf s ≤ h
-    go (inl a) = rw (level-low s a) zero-le
-    go (inr a) = rw (level-high s a) (omega arith)
-
--- what `belongs` asks of an owner that is not 0
-pub belongs-owner : (h s o : ℕ) → 0 < o → belongs h s o ≡ ltb (o - 1) (nodes h (levelOf s)) && eqb (slotOf (levelOf s) (o - 1)) s
-unfolding belongs
-belongs-owner h s zero p = absurd (omega arith)
-belongs-owner h s (suc i) p = ap (λ (k : ℕ). ltb k (nodes h (levelOf s)) && eqb (slotOf (levelOf s) k) s) (omega arith)
-
--- an owner that belongs to a slot is a node of the map that takes this slot, and each such node belongs there
-pub belongs-node : (h s i : ℕ) → belongs h s (suc i) ≡ true → (i < nodes h (levelOf s)) × (slotOf (levelOf s) i ≡ s)
-unfolding belongs
-belongs-node h s i e = go (ltb i (nodes h (levelOf s))) (eqb (slotOf (levelOf s) i) s) refl refl e
-  where
-    go : (a b : Bool) → ltb i (nodes h (levelOf s)) ≡ a → eqb (slotOf (levelOf s) i) s ≡ b → (a && b) ≡ true
-        → (i < nodes h (levelOf s)) × (slotOf (levelOf s) i ≡ s)
-    go true true p q r = (ltb-true i (nodes h (levelOf s)) p, eqb-true (slotOf (levelOf s) i) s q)
-    go true false p q r = absurd (let z : _≡_ {A = Bool} false true = r in let w : _≡_ {A = ℕ} 0 1 = cc in omega arith)
-    go false b p q r = absurd (let z : _≡_ {A = Bool} false true = r in let w : _≡_ {A = ℕ} 0 1 = cc in omega arith)
-
-pub node-belongs : (h l i : ℕ) → i < nodes h l → belongs h (slotOf l i) (suc i) ≡ true
-unfolding belongs
-node-belongs h l i p =
-    ap (λ (k : ℕ). ltb i (nodes h k) && eqb (slotOf k i) (slotOf l i)) (level-slot l i)
-    ∙ ap₂ (λ (a b : Bool). a && b) (lt-ltb i (nodes h l) p) (eq-eqb (slotOf l i) (slotOf l i) refl)
-
-pub level-small : (h l : ℕ) → h ≤ 3 → l ≤ h + 1 → levelStart h l ≤ 33363
-level-small h l p q = omega (arith, level-mono h l (suc h) (omega arith), cells-shadow h, cells-small h p)
-
-pub slot-zero : (l i : ℕ) → l ≡ 0 → i % 4 ≡ slotOf l i
-unfolding slotOf
-slot-zero zero i e = refl
-slot-zero (suc l) i e = absurd (omega arith)
-
-pub slot-node : (l i : ℕ) → (l ≡ 0 → ⊥) → 4 + 2 * (l - 1) + i % 2 ≡ slotOf l i
-unfolding slotOf
-slot-node zero i e = absurd (e refl)
-slot-node (suc l) i e = omega arith
-
 -- a cell's number as the code computes it
 pub node-cell : (h l i : ℕ) → levelStart h l + i ≡ cellOf h (node l i)
 unfolding cellOf
@@ -172,17 +114,3 @@ all-cells h = rw add-one
 pub in-map-node : (h l i : ℕ) → InMap h (node l i) → (l ≤ h) × (i < nodes h l)
 unfolding InMap
 in-map-node h l i m = m
-
--- the three ways `belongs` ends
-pub belongs-empty : (h s o : ℕ) → o ≡ 0 → false ≡ belongs h s o
-unfolding belongs
-belongs-empty h s zero e = refl
-belongs-empty h s (suc i) e = absurd (omega arith)
-
-pub belongs-out : (h s o n : ℕ) → (o ≡ 0 → ⊥) → n ≡ nodes h (levelOf s) → n ≤ o - 1 → false ≡ belongs h s o
-belongs-out h s o n p e q =
-    sym (belongs-owner h s o (omega arith) ∙ ap (λ (b : Bool). b && eqb (slotOf (levelOf s) (o - 1)) s) (le-ltb (o - 1) (nodes h (levelOf s)) (subst (λ (k : ℕ). k ≤ o - 1) e q)))
-
-pub belongs-in : (h s o n : ℕ) → (o ≡ 0 → ⊥) → n ≡ nodes h (levelOf s) → o - 1 < n → eqb (slotOf (levelOf s) (o - 1)) s ≡ belongs h s o
-belongs-in h s o n p e q =
-    sym (belongs-owner h s o (omega arith) ∙ ap (λ (b : Bool). b && eqb (slotOf (levelOf s) (o - 1)) s) (lt-ltb (o - 1) (nodes h (levelOf s)) (subst (λ (k : ℕ). o - 1 < k) e q)))

@@ -10,17 +10,12 @@ ghost use Rattle.memory_map.specs.Map.{
   pageOf,
   placeOf,
   levelStart,
-  shadowStart,
   arrayLength,
-  cacheLength,
-  slotOf,
-  levelOf,
   pages as pagesOf,
   lines as linesOf,
   nodes as nodesOf,
   slots as slotsOf,
   cells as cellsOf,
-  belongs as belongsTo,
 };
 
 pub fn pages(h: usize) -> usize
@@ -109,45 +104,4 @@ pub fn array_length(h: usize) -> usize
     ensures { λ r. ⌜ r ≡ arrayLength h ⌝ }
 {
     72 * cells(h)
-}
-
-pub fn cache_length(h: usize) -> usize
-    requires { ⌜ (1 ≤ h) × (h ≤ 3) ⌝ }
-    ensures { λ r. ⌜ r ≡ cacheLength h ⌝ }
-{
-    73 * slots(h)
-}
-
-// The slot that node i of level l may take.
-pub fn slot_of(l: usize, i: usize) -> usize
-    requires { ⌜ l ≤ 3 ⌝ }
-    ensures { λ r. ⌜ r ≡ slotOf l i ⌝ }
-{
-    if l == 0 {
-        i % 4
-    } else {
-        4 + 2 * (l - 1) + i % 2
-    }
-}
-
-// The level whose nodes slot s may hold.
-pub fn level_of(s: usize) -> usize
-    ensures { λ r. ⌜ r ≡ levelOf s ⌝ }
-{
-    if s < 4 { 0 } else { (s - 4) / 2 + 1 }
-}
-
-// Whether an owner, an index + 1, is a node of the map that may take slot s.
-pub fn belongs(h: usize, s: usize, owner: usize) -> bool
-    requires { ⌜ (1 ≤ h) × ((h ≤ 3) × (s < slotsOf h)) ⌝ }
-    ensures { λ r. ⌜ r ≡ belongsTo h s owner ⌝ }
-{
-    if owner == 0 {
-        return false;
-    }
-    let l = level_of(s);
-    if nodes(h, l) <= owner - 1 {
-        return false;
-    }
-    slot_of(l, owner - 1) == s
 }

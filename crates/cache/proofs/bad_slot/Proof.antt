@@ -8,7 +8,7 @@ use lib.Dec.{eqb}
 use lib.ListN.{take, getD}
 use borrow.Author.Tests.{eq-eqb, ne-eqb}
 use Rattle.memory_map.specs.Map.{slots}
-use Rattle.memory_map.proofs.Laws.{slot-within}
+use Rattle.slot_map.proofs.Laws.{slot-within}
 use Rattle.cache.specs.Cache.{anyOwner, badSlot}
 use Rattle.cache.specs.declared.Found.the-variants.{Nothing, At}
 use Rattle.cache.proofs.Steps.{bad-stray, bad-top}

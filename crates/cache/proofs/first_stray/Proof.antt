@@ -8,7 +8,8 @@ use native.Mathlib.Omega.{arith}
 use lib.Dec.{eqb}
 use lib.ListN.{length, take, drop, getD}
 use borrow.Author.Tests.{not-true, not-false}
-use Rattle.memory_map.specs.Map.{slots, belongs}
+use Rattle.memory_map.specs.Map.{slots}
+use Rattle.slot_map.specs.Slots.{belongs}
 use Rattle.cache.specs.declared.Found.the-variants.{At}
 use Rattle.cache.specs.Cache.{stray}
 use Rattle.cache.proofs.Steps.{place-empty, place-filled, stray-turn, stray-end}

@@ -3,7 +3,8 @@ use mathlib.Core.Path.{_≡_, sym, ap, _∙_}
 use Prim.Native.Nat.{_+_, _*_}
 use native.Mathlib.Omega.{arith}
 use Rattle.words.specs.Bytes.{fromLe, part}
-use Rattle.memory_map.specs.Map.{slots, cacheLength}
+use Rattle.memory_map.specs.Map.{slots}
+use Rattle.slot_map.specs.Slots.{cacheLength}
 use Rattle.cache.specs.Cache.{owner, cacheOwners, badSlot, flagsFormed, isNothing}
 use Rattle.cache.proofs.Steps.{owners-are, owner-step, formed-by}
 use borrow.Author.Needs.{needs}

@@ -5,7 +5,7 @@ use Prim.Native.Nat.{ℕ, _≤_}
 use borrow.Author.Needs.{needs}
 use borrow.Author.Tests.{not-true, not-false}
 use native.Mathlib.Omega.{arith}
-use Rattle.memory_map.specs.Map.{cacheLength}
+use Rattle.slot_map.specs.Slots.{cacheLength}
 use Rattle.control.specs.Control.{depth, valid}
 use Rattle.control.proofs.Laws.{valid-parts}
 use Rattle.cache.specs.Cache.{formed}

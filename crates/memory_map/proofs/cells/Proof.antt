@@ -5,7 +5,7 @@ use Prim.Native.Nat.{_+_}
 use native.Mathlib.Nat.{add-comm}
 use native.Mathlib.Omega.{arith}
 use Rattle.memory_map.specs.Map.{slots, levelStart}
-use Rattle.memory_map.proofs.Laws.{all-cells, cells-small}
+use Rattle.memory_map.proofs.Laws.{all-cells, start-small, slots-small}
 use Rattle.memory_map.proofs.cells.Statement.{statement}
 use Rattle.memory_map.proofs.cells.Tie as tie
 
@@ -21,7 +21,7 @@ level-start-requires c κs = search needs
 add-result : tie.Need-add-result
 add-result c =
     let start = c .before .before in
-    omega (arith, c .level-start .ensures, c .before .slots .ensures, all-cells (start .args .h), cells-small (start .args .h) (start .pre .1))
+    omega (arith, start-small (c .level-start .ensures) (start .pre .1) (omega arith), slots-small (c .before .slots .ensures) (omega (arith, start .pre .1)))
 
 returns : tie.Need-returns
 returns c =

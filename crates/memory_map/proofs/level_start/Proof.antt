@@ -1,11 +1,11 @@
 -- `memory_map::level_start` meets its contract. Assumes nothing.
 use borrow.Author.Needs.{needs}
 use mathlib.Core.Path.{_≡_, _∙_, ap, ap₂}
-use Prim.Native.Nat.{suc, _+_, _-_, _≤_, zero-le}
+use Prim.Native.Nat.{_+_, _-_, _≤_, zero-le}
 use native.Mathlib.Numerals.{add-one}
 use native.Mathlib.Omega.{arith}
 use Rattle.memory_map.specs.Map.{levelStart}
-use Rattle.memory_map.proofs.Laws.{level-next, level-small}
+use Rattle.memory_map.proofs.Laws.{level-next, start-small, nodes-small}
 use Rattle.memory_map.proofs.level_start.Statement.{statement}
 use Rattle.memory_map.proofs.level_start.Tie as tie
 
@@ -29,7 +29,7 @@ add-start : tie.Need-add-start Inv-loop μ-loop
 add-start c =
     let at = c .before .before in
     let start = at .before .before in
-    omega (arith, level-next (start .args .h) (at .loop .k), level-small (start .args .h) (suc (at .loop .k)) (start .pre .1 .0) (omega arith))
+    omega (arith, start-small (at .loop .inv .1) (start .pre .1 .0) (omega arith), nodes-small _ (c .nodes .ensures) (start .pre .1 .0))
 
 add-k : tie.Need-add-k Inv-loop μ-loop
 add-k c = omega arith

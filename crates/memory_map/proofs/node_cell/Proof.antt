@@ -1,8 +1,8 @@
 -- `memory_map::node_cell` meets its contract. Assumes nothing.
-use mathlib.Core.Path.{_∙_, ap}
+use mathlib.Core.Path.{refl, _∙_, ap}
 use Prim.Native.Nat.{ℕ, _+_}
 use native.Mathlib.Omega.{arith}
-use Rattle.memory_map.proofs.Laws.{in-map-node, level-shadow, shadow-cells, cells-small, node-cell}
+use Rattle.memory_map.proofs.Laws.{in-map-node, start-small, nodes-small, node-cell}
 use Rattle.memory_map.proofs.node_cell.Statement.{statement}
 use Rattle.memory_map.proofs.node_cell.Tie as tie
 
@@ -15,7 +15,8 @@ add-result : tie.Need-add-result
 add-result c =
     let a = c .before .args in
     let m = in-map-node (a .h) (a .l) (a .i) (c .before .pre .1 .1) in
-    omega (arith, c .level-start .ensures, level-shadow (a .h) (a .l) (a .i) (m .0) (m .1), shadow-cells (a .h), cells-small (a .h) (c .before .pre .1 .0))
+    let p = c .before .pre .1 .0 in
+    omega (arith, start-small (c .level-start .ensures) p (omega (arith, m .0)), nodes-small {h = a .h} (a .l) refl p)
 
 returns : tie.Need-returns
 returns c =

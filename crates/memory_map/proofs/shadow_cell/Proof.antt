@@ -1,10 +1,10 @@
 -- `memory_map::shadow_cell` meets its contract. Assumes nothing.
 use borrow.Author.Needs.{needs}
-use mathlib.Core.Path.{_∙_, ap}
+use mathlib.Core.Path.{refl, _∙_, ap}
 use Prim.Native.Nat.{ℕ, _+_}
 use native.Mathlib.Omega.{arith}
 use Rattle.memory_map.specs.Map.{InMap}
-use Rattle.memory_map.proofs.Laws.{all-cells, cells-small, shadow-cell}
+use Rattle.memory_map.proofs.Laws.{start-small, slots-small, shadow-cell}
 use Rattle.memory_map.proofs.shadow_cell.Statement.{statement}
 use Rattle.memory_map.proofs.shadow_cell.Tie as tie
 
@@ -18,7 +18,8 @@ add-result : tie.Need-add-result
 unfolding InMap
 add-result c =
     let a = c .before .args in
-    omega (arith, c .level-start .ensures, all-cells (a .h), cells-small (a .h) (c .before .pre .1 .0), c .before .pre .1 .1)
+    let p = c .before .pre .1 .0 in
+    omega (arith, start-small (c .level-start .ensures) p (omega arith), slots-small {h = a .h} refl p, c .before .pre .1 .1)
 
 returns : tie.Need-returns
 returns c =

@@ -1,11 +1,12 @@
--- `memory_map::cache_length` meets its contract. Assumes nothing.
+-- `slot_map::cache_length` meets its contract. Assumes nothing.
 use borrow.Author.Needs.{needs}
 use mathlib.Core.Path.{ap}
 use Prim.Native.Nat.{ℕ, _*_}
 use native.Mathlib.Omega.{arith}
-use Rattle.memory_map.specs.Map.{slots, cacheLength}
-use Rattle.memory_map.proofs.cache_length.Statement.{statement}
-use Rattle.memory_map.proofs.cache_length.Tie as tie
+use Rattle.memory_map.specs.Map.{slots}
+use Rattle.slot_map.specs.Slots.{cacheLength}
+use Rattle.slot_map.proofs.cache_length.Statement.{statement}
+use Rattle.slot_map.proofs.cache_length.Tie as tie
 
 slots-requires : tie.Need-slots-requires
 slots-requires c κs = search needs

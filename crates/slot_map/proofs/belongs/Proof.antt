@@ -1,13 +1,14 @@
--- `memory_map::belongs` meets its contract. Assumes nothing.
+-- `slot_map::belongs` meets its contract. Assumes nothing.
 use borrow.Author.Needs.{needs}
 use mathlib.Core.Path.{_∙_, ap}
 use Prim.Native.Nat.{ℕ, _-_}
 use native.Mathlib.Omega.{arith}
 use lib.Dec.{eqb}
-use Rattle.memory_map.specs.Map.{nodes, slotOf}
-use Rattle.memory_map.proofs.Laws.{belongs-empty, belongs-out, belongs-in, level-within}
-use Rattle.memory_map.proofs.belongs.Statement.{statement}
-use Rattle.memory_map.proofs.belongs.Tie as tie
+use Rattle.memory_map.specs.Map.{nodes}
+use Rattle.slot_map.specs.Slots.{slotOf}
+use Rattle.slot_map.proofs.Laws.{belongs-empty, belongs-out, belongs-in, level-within}
+use Rattle.slot_map.proofs.belongs.Statement.{statement}
+use Rattle.slot_map.proofs.belongs.Tie as tie
 
 returns : tie.Need-returns
 returns c = belongs-empty (c .before .args .h) (c .before .args .s) (c .before .args .owner) (c .if1 .taken)
@@ -27,7 +28,7 @@ returns-2 : tie.Need-returns-2
 returns-2 c =
     let a = c .before .before .before .before .args in
     belongs-out (a .h) (a .s) (a .owner) (c .before .nodes .result) (c .before .before .before .if1 .left)
-    (c .before .nodes .ensures ∙ ap (nodes (a .h)) (c .before .before .level-of .ensures)) (c .if2 .taken)
+    (c .before .nodes .ensures ∙ ap (nodes (a .h)) (c .before .before .level-of .ensures)) (omega (arith, c .if2 .taken))
 
 sub-slot-of : tie.Need-sub-slot-of
 sub-slot-of c = search needs
@@ -43,7 +44,7 @@ returns-3 c =
     let a = at .before .before .before .args in
     ap (λ (n : ℕ). eqb n (a .s)) (c .slot-of .ensures ∙ ap (λ (l : ℕ). slotOf l (a .owner - 1)) (at .before .level-of .ensures))
     ∙ belongs-in (a .h) (a .s) (a .owner) (at .nodes .result) (at .before .before .if1 .left)
-    (at .nodes .ensures ∙ ap (nodes (a .h)) (at .before .level-of .ensures)) (c .before .if2 .left)
+    (at .nodes .ensures ∙ ap (nodes (a .h)) (at .before .level-of .ensures)) (omega (arith, c .before .if2 .left))
 
 pub belongs-spec : {M : Type 1} → statement M
 belongs-spec =

@@ -1,8 +1,8 @@
--- `memory_map::slot_of` meets its contract. Assumes nothing.
+-- `slot_map::slot_of` meets its contract. Assumes nothing.
 use borrow.Author.Needs.{needs}
-use Rattle.memory_map.proofs.Laws.{slot-zero, slot-node}
-use Rattle.memory_map.proofs.slot_of.Statement.{statement}
-use Rattle.memory_map.proofs.slot_of.Tie as tie
+use Rattle.slot_map.proofs.Laws.{slot-zero, slot-node}
+use Rattle.slot_map.proofs.slot_of.Statement.{statement}
+use Rattle.slot_map.proofs.slot_of.Tie as tie
 
 sub-result : tie.Need-sub-result
 sub-result c = search needs
