@@ -31,7 +31,7 @@ fn sip_round(v: [u64; 4]) -> [u64; 4]
 }
 
 // The state of a key's two words.
-pub fn start(k0: u64, k1: u64) -> [u64; 4]
+fn start(k0: u64, k1: u64) -> [u64; 4]
     ensures { λ r. ⌜ r ≡ initial k0 k1 ⌝ }
 {
     [
@@ -50,12 +50,12 @@ pub fn compress(v: [u64; 4], m: u64) -> [u64; 4]
     [r[0] ^ m, r[1], r[2], r[3]]
 }
 
-// The first n words of a message.
-pub fn absorb(v: [u64; 4], s: &[u8], n: usize) -> [u64; 4]
+// The state of a key's two words after the first n words of a message.
+pub fn absorb(k0: u64, k1: u64, s: &[u8], n: usize) -> [u64; 4]
     requires { ⌜ n * 8 ≤ length (now s) ⌝ }
-    ensures { λ r. ⌜ r ≡ compressAll v (wordsOf 8 n (now (s .entry))) ⌝ }
+    ensures { λ r. ⌜ r ≡ compressAll (initial k0 k1) (wordsOf 8 n (now (s .entry))) ⌝ }
 {
-    let mut r = v;
+    let mut r = start(k0, k1);
     let mut i = 0;
     while i < n {
         let next = compress(r, load64(s, i * 8));
@@ -98,10 +98,6 @@ pub fn hash(key: &[u8], message: &[u8]) -> u64
     requires { ⌜ length (now key) ≡ 16 ⌝ }
     ensures { λ r. ⌜ r ≡ sipHash (now (key .entry)) (now (message .entry)) ⌝ }
 {
-    let v = absorb(
-        start(load64(key, 0), load64(key, 8)),
-        message,
-        message.len() / 8,
-    );
+    let v = absorb(load64(key, 0), load64(key, 8), message, message.len() / 8);
     finalize(compress(v, last_word(message)))
 }

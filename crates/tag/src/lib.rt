@@ -12,11 +12,7 @@ pub fn node_tag(keys: &[u8], content: &[u8], level: u64, index: u64) -> u64
     requires { ⌜ (length (now keys) ≡ 48) × (length (now content) ≡ 64) ⌝ }
     ensures { λ r. ⌜ r ≡ nodeTag (now (keys .entry)) (now (content .entry)) level index ⌝ }
 {
-    let v = absorb(
-        siphash::start(load64(keys, 32), load64(keys, 40)),
-        content,
-        8,
-    );
+    let v = absorb(load64(keys, 32), load64(keys, 40), content, 8);
     let w = compress(compress(v, level), index);
     finalize(compress(w, 0x5000_0000_0000_0000))
 }
@@ -26,11 +22,7 @@ pub fn data_tag(keys: &[u8], content: &[u8], line: u64, major: u64, minor: u64) 
     requires { ⌜ (length (now keys) ≡ 48) × (length (now content) ≡ 64) ⌝ }
     ensures { λ r. ⌜ r ≡ dataTag (now (keys .entry)) (now (content .entry)) line major minor ⌝ }
 {
-    let v = absorb(
-        siphash::start(load64(keys, 32), load64(keys, 40)),
-        content,
-        8,
-    );
+    let v = absorb(load64(keys, 32), load64(keys, 40), content, 8);
     let w = compress(compress(compress(v, line), major), minor);
     finalize(compress(w, 0x5800_0000_0000_0000)) % 0x100_0000_0000_0000
 }

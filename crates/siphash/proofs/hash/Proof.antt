@@ -11,9 +11,6 @@ load64-requires c κs = search needs
 load64-requires-2 : tie.Need-load64-requires-2
 load64-requires-2 c κs = search needs
 
-start-requires : tie.Need-start-requires
-start-requires c κs = search needs
-
 absorb-requires : tie.Need-absorb-requires
 absorb-requires c κs = search needs
 
@@ -28,7 +25,7 @@ finalize-requires c κs = search needs
 
 returns : tie.Need-returns
 returns c =
-    let start = c .before .before .before .before .before .before .before .before .before in
+    let start = c .before .before .before .before .before .before .before .before in
     let same = hash-last (start .args .key .now) (start .args .message .now) in
     cc
 
@@ -38,7 +35,6 @@ hash-spec =
     (tie.spec
     load64-requires
     load64-requires-2
-    start-requires
     absorb-requires
     last-word-requires
     compress-requires

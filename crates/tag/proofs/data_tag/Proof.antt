@@ -16,9 +16,6 @@ load64-requires c κs = search needs
 load64-requires-2 : tie.Need-load64-requires-2
 load64-requires-2 c κs = search needs
 
-start-requires : tie.Need-start-requires
-start-requires c κs = search needs
-
 absorb-requires : tie.Need-absorb-requires
 absorb-requires c κs = search needs
 
@@ -40,7 +37,7 @@ finalize-requires c κs = search needs
 returns : tie.Need-returns
 unfolding compressAll dataInput dataTag
 returns c =
-    let start = c .before .before .before .before .before .before .before .before .before .before .before in
+    let start = c .before .before .before .before .before .before .before .before .before .before in
     let same = tag-numbers (start .args .keys .now) (start .args .content .now) (start .args .line ∷ start .args .major ∷ start .args .minor ∷ []) (start .pre .1) (below-cons (start .fits .line .fits) (below-cons (start .fits .major .fits) (below-cons (start .fits .minor .fits) (below-nil (pow-pos 64))))) in
     cc
 
@@ -50,7 +47,6 @@ data-tag-spec =
     (tie.spec
     load64-requires
     load64-requires-2
-    start-requires
     absorb-requires
     compress-requires
     compress-requires-2
