@@ -251,9 +251,8 @@ def bench_step(made, words, allowance, before, count):
 
 
 def listing_text(made, links):
-    return MADE % "The bench listing of the paper, whole: what the definitions compute for its commands." + """use mathlib.Core.Path.{_≡_, refl, _∙_, ap}
-use mathlib.Core.List.{List, [], _∷_}
-use Rattle.calls.specs.Calls.{Module, Called}
+    return MADE % "The bench listing of the paper, whole: what the definitions compute for its commands." + """use mathlib.Core.Path.{_≡_, _∙_, ap}
+use Rattle.calls.specs.Calls.{Called}
 use Rattle.examples.specs.Bench.{unlimited, bench, benchRun, commands, printed}
 use Rattle.examples.proofs.Links.{link-w, link-r, link-p, link-k, link-end, kept-done, kept-blank}
 use Rattle.bench_listing.specs.States.{m0, given}
@@ -466,13 +465,15 @@ def rebuilding(made, before, depth, first):
 
     def front(slots):
         return literal(module.cache[:slots * 73] + bytes(len(module.cache) - slots * 73))
-    array = "%d (%s .array)" % (depth, before.name), "%d %s (%s .array)" % (depth, K.text, before.name)
-    made.theorem("blocks", "rebuildBlocks %s 0 (%s) (emptyCache %d) 0 ≡ rebuilt (%s) 1" % (array[0], octets(owners[:4]), depth, front(4)))
-    made.theorem("nodes", "rebuildNodes %s %d (%s) (%s) ≡ %s" % (array[1], first, octets(owners[first:]), front(first), literal(module.cache)))
+    array = "(%s .array)" % before.name
+    made.theorem("blocks", "rebuildBlocks %d %s 0 (%s) (emptyCache %d) 0 ≡ rebuilt (%s) 1" % (
+        depth, array, octets(owners[:4]), depth, front(4)))
+    made.theorem("nodes", "rebuildNodes %d %s %s %d (%s) (%s) ≡ %s" % (
+        depth, K.text, array, first, octets(owners[first:]), front(first), literal(module.cache)))
 
 
 REBUILDING = """use Rattle.cache.specs.Cache.{emptyCache}
-use Rattle.calls.specs.Calls.{Rebuilt, rebuilt, rebuildBlocks, rebuildNodes}
+use Rattle.calls.specs.Calls.{rebuilt, rebuildBlocks, rebuildNodes}
 """
 
 
@@ -513,7 +514,7 @@ use Rattle.words.specs.Bytes.{part}
 use Rattle.answer.specs.declared.Answer.{Answer}
 use Rattle.answer.specs.declared.Answer.the-variants.{Done}
 use Rattle.cache.specs.Cache.{emptyCache}
-use Rattle.calls.specs.Calls.{Module, Called, write, Rebuilt, rebuilt, rebuildBlocks, rebuildNodes}
+use Rattle.calls.specs.Calls.{Module, Called, write, rebuilt, rebuildBlocks, rebuildNodes}
 use Rattle.calls.proofs.Run.{run}
 use Rattle.calls.proofs.Sparse.{sparse, upTo}
 

@@ -3,7 +3,7 @@
 use mathlib.Core.Path.{_≡_, refl, sym, ap, _∙_, subst}
 use mathlib.Core.Logic.{⊎-elim}
 use mathlib.Core.Bool.{Bool, true, false, cond}
-use mathlib.Core.List.{List, [], _∷_, _++_}
+use mathlib.Core.List.{List}
 use Prim.Native.Nat.{ℕ, zero, suc, _≤_, _<_}
 use native.Mathlib.Nat.{le-refl, le-trans, le-of-eq, not-suc-le-zero}
 use native.Mathlib.Omega.{arith}
@@ -14,15 +14,15 @@ use Rattle.words.proofs.Order.{lt-or-ge}
 use Rattle.answer.specs.declared.Answer.{Answer}
 use Rattle.answer.specs.declared.Answer.the-variants.{Done, Blank, Cut, Refused}
 use Rattle.answer.specs.Answer.{storesOf}
-use Rattle.control.specs.Control.{Cell, depth, root}
+use Rattle.control.specs.Control.{depth, root}
 use Rattle.cache.specs.declared.Found.{Found}
 use Rattle.cache.specs.declared.Found.the-variants.{Nothing, At}
 use Rattle.cache.specs.Cache.{shadowOwners, current, badSlot, emptyCache}
 use Rattle.tag.specs.Tag.{nodeTag}
-use Rattle.journal.specs.Journal.{Store, storeAll, made, isCut, pendingStores, batchStores}
-use Rattle.journal.proofs.Laws.{made-within, made-all, less-cut, cut-made}
+use Rattle.journal.specs.Journal.{Store, storeAll, made, pendingStores, batchStores}
+use Rattle.journal.proofs.Laws.{made-all, less-cut, cut-made}
 use Rattle.calls.specs.Path.{Loaded, loaded, differs}
-use Rattle.calls.specs.Calls.{Module, Called, Reading, mediaOf, withMedia, refuse, storing, answered, refusedRead, accessRefusal, lineMinor, sideOk, lineText, readLoaded, readPath, pathOf, readJudged, read, writeStores, writtenCache, writeLoaded, writePath, writeJudged, write, Rebuilt, rebuilt, damaged, rebuildBlocks, rebuildNodes, recoveryRefusal, recoverRoot, recoverRebuilt, recoverShadow, recoverMedia, recoverJudged, recover}
+use Rattle.calls.specs.Calls.{Module, Called, mediaOf, withMedia, refuse, storing, answered, refusedRead, accessRefusal, lineMinor, sideOk, lineText, readLoaded, readPath, pathOf, readJudged, read, writeStores, writtenCache, writeLoaded, writePath, writeJudged, write, Rebuilt, rebuilt, damaged, rebuildBlocks, rebuildNodes, recoveryRefusal, recoverRoot, recoverRebuilt, recoverShadow, recoverMedia, recoverJudged, recover}
 use Rattle.calls.specs.History.{NotCut}
 
 -- a call as a function of its allowance

@@ -9,7 +9,7 @@ use Rattle.words.proofs.Digits.{Below}
 use Rattle.control.specs.Control.{Cell, depth}
 use Rattle.calls.specs.Path.{loaded}
 use Rattle.calls.specs.Calls.{Module, pathOf, accessRefusal, writeBatch}
-use Rattle.call_laws.proofs.Judged.{Accepted, access-accepted, head-of}
+use Rattle.call_laws.proofs.Judged.{access-accepted, head-of}
 use Rattle.call_laws.proofs.Kept.{Bytes, path-few, batch-bound}
 
 module _ (keys : List ℕ) (n : ℕ) (b : List ℕ) (m : Module) (bytes : Bytes m) (plain : Below 256 b) (open-now : accessRefusal keys n b m ≡ 0)

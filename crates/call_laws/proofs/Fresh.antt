@@ -1,23 +1,18 @@
 -- Format keeps the lengths of the buffers, and leaves bytes. Assumes nothing.
-use mathlib.Core.Path.{_≡_, refl, sym, ap, _∙_, subst}
+use mathlib.Core.Path.{_≡_, refl, sym, _∙_}
 use mathlib.Core.List.{List, [], _∷_, _++_}
-use Prim.Native.Nat.{ℕ, zero, suc, _+_, _*_, _≤_, _<_}
+use Prim.Native.Nat.{ℕ, zero, suc, _+_, _*_, _<_}
 use native.Mathlib.Omega.{arith}
 use lib.Dec.{lit<}
 use lib.ListN.{length, replicate, length-append, length-replicate}
 use Rattle.words.specs.Bytes.{digits, toLe}
-use Rattle.words.proofs.Digits.{Below, below-nil, below-cons, below-append, below-digits, length-digits}
+use Rattle.words.proofs.Digits.{Below, below-nil, below-cons, below-append, below-digits}
 use Rattle.memory_map.specs.Map.{lines, nodes, levelStart, slots, shadowStart, cells, arrayLength}
-use Rattle.slot_map.specs.Slots.{cacheLength}
-use Rattle.memory_map.proofs.Laws.{level-next}
-use Rattle.counter.specs.Counter.{counterBlock}
 use Rattle.counter.proofs.Laws.{length-counterBlock, below-counterBlock}
 use Rattle.control.specs.Control.{controlLength, mark, freshControl}
-use Rattle.cache.specs.Cache.{emptyCache}
 use Rattle.cache.proofs.Laws.{length-empty, below-empty}
-use Rattle.calls.specs.Path.{tagsFrom, childTags}
 use Rattle.calls.specs.Calls.{Module, Called, refuse, countsFrom, freshNode, freshRoot, nodeCells, levelCells, freshArray, formatted, format, formatRefusal}
-use Rattle.call_laws.proofs.Judged.{Sized, Formattable, format-accepted}
+use Rattle.call_laws.proofs.Judged.{Formattable, format-accepted}
 use Rattle.call_laws.proofs.Loads.{zeros-bytes}
 use Rattle.call_laws.proofs.Kept.{Bytes, Kept, kept-same}
 use Rattle.call_laws.proofs.Rebuilt.{tags-length, tags-bytes}

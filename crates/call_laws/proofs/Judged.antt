@@ -1,10 +1,10 @@
 -- What holds of the inputs of a call that is not refused for them. Assumes nothing.
-use mathlib.Core.Path.{_≡_, refl, sym, ap, _∙_, subst}
-use mathlib.Core.Bool.{Bool, true, false, not, cond, _&&_, and-eq-true-iff}
+use mathlib.Core.Path.{_≡_, refl}
+use mathlib.Core.Bool.{Bool, true, false, not, _&&_, and-eq-true-iff}
 use mathlib.Core.List.{List, [], _∷_, _++_}
-use Prim.Native.Nat.{ℕ, zero, suc, _*_, _/_, _≤_, _<_}
+use Prim.Native.Nat.{ℕ, suc, _≤_, _<_}
 use native.Mathlib.Omega.{arith}
-use lib.Dec.{eqb, leb, ltb}
+use lib.Dec.{eqb, leb}
 use lib.ListN.{length}
 use borrow.Author.Tests.{not-false, eqb-true, leb-true, leb-false, ltb-false}
 use Rattle.memory_map.specs.Map.{pages, lines, pageOf, arrayLength}
@@ -12,7 +12,7 @@ use Rattle.slot_map.specs.Slots.{cacheLength}
 use Rattle.control.specs.Control.{controlLength, depth, count, valid, pending}
 use Rattle.control.proofs.Laws.{Head, valid-parts}
 use Rattle.cache.specs.Cache.{formed}
-use Rattle.calls.specs.Calls.{Module, judged, lengthTests, openingTests, formatRefusal, recoveryRefusal, accessRefusal, listRefusal}
+use Rattle.calls.specs.Calls.{Module, judged, lengthTests, openingTests, formatRefusal, recoveryRefusal, accessRefusal}
 
 pub record Passed (t : Bool) (xs : List (Bool × ℕ)) : Type 0 where
   pub test : t ≡ false

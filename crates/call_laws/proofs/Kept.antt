@@ -2,39 +2,38 @@
 use mathlib.Core.Path.{_≡_, refl, sym, ap, _∙_, subst}
 use mathlib.Core.Bool.{Bool, true, false, cond}
 use mathlib.Core.List.{List, [], _∷_, _++_}
-use Prim.Native.Nat.{ℕ, zero, suc, _+_, _-_, _*_, _/_, _%_, _^_, _≤_, _<_, zero-le}
-use native.Mathlib.Nat.{le-refl, le-trans, mul-div-cancel-left, sub-zero}
+use Prim.Native.Nat.{ℕ, zero, suc, _+_, _*_, _/_, _%_, _≤_, _<_, zero-le}
+use native.Mathlib.Nat.{le-refl, mul-div-cancel-left, sub-zero}
 use native.Mathlib.Omega.{arith}
-use lib.Dec.{eqb, lit<, ltb, leb}
+use lib.Dec.{eqb, lit<}
 use lib.ListN.{length, replicate, length-append, length-replicate}
 use borrow.Author.Tests.{lt-ltb}
-use Rattle.words.specs.Bytes.{toLe, part}
+use Rattle.words.specs.Bytes.{toLe}
 use Rattle.words.proofs.Digits.{Below, below-append, below-cons, below-digits, length-digits}
-use Rattle.memory_map.specs.Map.{cells, arrayLength, lines, pages, pageOf, placeOf, nodes, InMap, cellOf}
+use Rattle.memory_map.specs.Map.{cells, arrayLength, pages, pageOf, placeOf, nodes, InMap, cellOf}
 use Rattle.slot_map.specs.Slots.{cacheLength, slotOf}
 use Rattle.words.proofs.Parts.{length-put, below-put}
 use Rattle.tag.specs.Tag.{nodeTag, dataTag}
-use Rattle.memory_map.specs.Map.Item.{line, node}
+use Rattle.memory_map.specs.Map.Item.{line}
 use Rattle.memory_map.proofs.Laws.{cells-small, cell-within}
 use Rattle.slot_map.proofs.Laws.{slot-within}
-use Rattle.control.specs.Control.{Cell, controlLength, depth, count, root, inMap, queue, valid}
-use Rattle.control.proofs.Laws.{Head, valid-parts}
-use Rattle.cache.specs.Cache.{formed, content, withSlot, cellContent}
+use Rattle.control.specs.Control.{Cell, controlLength, depth, root, inMap}
+use Rattle.cache.specs.Cache.{formed, content, cellContent}
 use Rattle.cache.proofs.Laws.{formed-facts, length-with, below-with}
-use Rattle.journal.specs.Journal.{Media, Store, storeAll, made, isCut, batchStores, pendingStores}
+use Rattle.journal.specs.Journal.{Store, storeAll, made, isCut, batchStores}
 use Rattle.journal.proofs.Each.{Each, none, more, each-append}
-use Rattle.journal.proofs.Kept.{Within, within-batch, within-pending, made-kept, Formed as Media·Formed}
+use Rattle.journal.proofs.Kept.{Within, within-batch, made-kept, Formed as Media·Formed}
 use Rattle.journal.proofs.Queue.{Whole}
 use Rattle.answer.specs.declared.Answer.{Answer}
-use Rattle.answer.specs.declared.Answer.the-variants.{Done, Blank, Cut, Refused}
+use Rattle.answer.specs.declared.Answer.the-variants.{Done, Blank, Cut}
 use Rattle.calls.specs.Path.{Loaded, loaded, differs, onPath, renewed, renewPath, nodeCell}
-use Rattle.counter.specs.Counter.{major, phaseOf}
+use Rattle.counter.specs.Counter.{major}
 use Rattle.counter.proofs.Laws.{length-withMinor, below-withMinor}
 use Rattle.pad.specs.Pad.{pad, xorBytes}
 use Rattle.pad.proofs.Nonce.{length-pad, below-pad}
 use Rattle.pad.proofs.Xor.{length-xor, below-xor}
 use Rattle.calls.specs.Calls.{Module, Called, Reading, mediaOf, withMedia, refuse, storing, answered, pageBlock, lineMinor, newMinor, newBlock, stopLoss, refusedRead, sideBytes, sideOk, lineText, readLoaded, readPath, readJudged, read, dataCell, writeBatch, writeStores, writtenCache, writeLoaded, writePath, pathOf, writeJudged, write, accessRefusal}
-use Rattle.call_laws.proofs.Judged.{Sized, Opened, Accepted, access-accepted, recovery-opened, head-of, page-inside}
+use Rattle.call_laws.proofs.Judged.{Accepted, access-accepted, head-of, page-inside}
 use Rattle.call_laws.proofs.Loads.{Sound, Fit, Loads, LoadsIf, path-loads, content-length, content-below, cell-length, cell-below, slot-room, sound-node, zeros-bytes}
 
 -- the buffers of a module hold bytes

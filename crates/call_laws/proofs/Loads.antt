@@ -1,29 +1,28 @@
 -- Loading a path: the cache stays formed, each cell of the batch is a whole cell of the map, and they are few. Assumes nothing.
 use mathlib.Core.Path.{_≡_, refl, sym, ap, ap₂, _∙_, subst}
-use mathlib.Core.Logic.{_⊎_, inl, inr, ⊎-elim}
 use mathlib.Core.Bool.{Bool, true, false, cond, false≢true}
 use mathlib.Core.List.{List, [], _∷_, _++_}
-use Prim.Native.Nat.{ℕ, zero, suc, _+_, _-_, _*_, _/_, _^_, _≤_, _<_, zero-le}
-use native.Mathlib.Nat.{le-refl, le-trans, lt-of-lt-of-le, sub-add-cancel, div-lt-iff-lt-mul, sub-self, div-eq-of-lt, suc-inj}
+use Prim.Native.Nat.{ℕ, zero, suc, _+_, _-_, _*_, _^_, _≤_, _<_, zero-le}
+use native.Mathlib.Nat.{le-refl, sub-add-cancel, div-lt-iff-lt-mul, sub-self, div-eq-of-lt, suc-inj}
 use native.Mathlib.Decide.{ℕ-discrete}
 use native.Mathlib.Omega.{arith}
 use lib.Dec.{eqb, lit<}
-use lib.ListN.{length, replicate, length-append, length-replicate}
+use lib.ListN.{length, replicate, length-append}
 use lib.Pow.{pow-add}
-use borrow.Author.Tests.{eq-eqb, ne-eqb, eqb-true, eqb-false}
+use borrow.Author.Tests.{ne-eqb, eqb-true}
 use Rattle.words.specs.Bytes.{toLe}
 use Rattle.words.proofs.Digits.{Below, below-append, below-digits, below-take, below-drop, pow-pos, length-digits}
 use Rattle.words.proofs.Parts.{length-part}
 use Rattle.words.proofs.Zeros.{below-zeros}
 use Rattle.memory_map.specs.Map.{pages, nodes, slots, cells, arrayLength, cellOf, InMap, Item}
-use Rattle.slot_map.specs.Slots.{cacheLength, slotOf, levelOf, belongs}
-use Rattle.memory_map.specs.Map.Item.{line, node, shadow}
+use Rattle.slot_map.specs.Slots.{cacheLength, slotOf, levelOf}
+use Rattle.memory_map.specs.Map.Item.{node, shadow}
 use Rattle.memory_map.proofs.Laws.{cell-within, cells-small, level-shadow, shadow-cells}
 use Rattle.slot_map.proofs.Laws.{slot-within, level-slot, belongs-node, node-belongs}
 use Rattle.tag.specs.Tag.{nodeTag}
 use Rattle.control.specs.Control.{Cell}
 use Rattle.cache.specs.Cache.{owner, dirty, content, withSlot, cellContent, holds, topSlot}
-use Rattle.cache.proofs.Laws.{Formed, Owned, formed-with, length-with, owner-same, owner-other, dirty-other, below-with, holds-owner, owner-holds}
+use Rattle.cache.proofs.Laws.{Formed, formed-with, length-with, owner-same, owner-other, dirty-other, below-with, holds-owner, owner-holds}
 use Rattle.journal.proofs.Each.{Each, none, more, each-append}
 use Rattle.calls.specs.Path.{onPath, childTag, nodeCell, shadowCell, evicted, Loaded, loaded, differs, loadNode, loadLevels, loadPath}
 

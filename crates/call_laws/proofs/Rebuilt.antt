@@ -1,36 +1,34 @@
 -- Recovery keeps the lengths of the buffers, and bytes stay bytes. Assumes nothing.
-use mathlib.Core.Path.{_≡_, refl, sym, ap, _∙_, subst}
+use mathlib.Core.Path.{_≡_, refl, sym, ap, _∙_}
 use mathlib.Core.Bool.{Bool, true, false, cond}
-use mathlib.Core.List.{List, [], _∷_, _++_}
+use mathlib.Core.List.{List, [], _∷_}
 use mathlib.Core.Option.{Option, none, some}
 use Prim.Native.Nat.{ℕ, zero, suc, _+_, _-_, _*_, _/_, _≤_, _<_}
-use native.Mathlib.Nat.{le-refl}
 use native.Mathlib.Omega.{arith}
 use lib.Dec.{eqb, lit<}
 use lib.ListN.{length, take, drop, getD, length-append, length-take, length-drop}
 use Rattle.words.specs.Bytes.{toLe, part}
 use Rattle.words.proofs.Digits.{Below, below-nil, below-append, below-digits, length-digits}
 use Rattle.words.proofs.Puts.{getD-part}
-use Rattle.memory_map.specs.Map.{cells, slots, arrayLength, cellOf}
+use Rattle.memory_map.specs.Map.{cells, slots, cellOf}
 use Rattle.slot_map.specs.Slots.{cacheLength, levelOf}
 use Rattle.memory_map.specs.Map.Item.{node}
 use Rattle.counter.specs.Counter.{major, minors, counterBlock}
 use Rattle.counter.proofs.Laws.{length-counterBlock, below-counterBlock}
 use Rattle.tag.specs.Tag.{nodeTag}
-use Rattle.control.specs.Control.{controlLength, depth, count, root, valid, queue, inMap}
-use Rattle.control.proofs.Laws.{Head, valid-parts}
+use Rattle.control.specs.Control.{depth, root}
+use Rattle.control.proofs.Laws.{valid-parts}
 use Rattle.cache.specs.declared.Found.{Found}
 use Rattle.cache.specs.declared.Found.the-variants.{Nothing, At}
 use Rattle.cache.specs.Cache.{from, withSlot, emptyCache, cellContent, shadowOwners, badSlot, current}
 use Rattle.cache.proofs.Laws.{length-with, below-with, length-empty, below-empty}
-use Rattle.journal.specs.Journal.{Media, Store, storeAll, made, isCut, pendingStores}
+use Rattle.journal.specs.Journal.{storeAll, made, isCut, pendingStores}
 use Rattle.journal.proofs.Each.{Each, each-take}
 use Rattle.journal.proofs.Kept.{Within, within-pending, stores-front}
-use Rattle.answer.specs.declared.Answer.{Answer}
 use Rattle.answer.specs.declared.Answer.the-variants.{Done, Cut, Refused}
-use Rattle.calls.specs.Path.{tagsFrom, childTags}
-use Rattle.calls.specs.Calls.{Module, Called, mediaOf, withMedia, refuse, forwardFrom, total, Rebuilt, rebuilt, damaged, rebuildBlock, rebuildSlot, rebuildBlocks, rebuildNode, rebuildNodes, recoverRoot, recoverRebuilt, recoverShadow, recoverMedia, recoverJudged, recover, recoveryRefusal}
-use Rattle.call_laws.proofs.Judged.{Sized, Opened, recovery-opened, head-of}
+use Rattle.calls.specs.Path.{tagsFrom}
+use Rattle.calls.specs.Calls.{Module, Called, mediaOf, withMedia, forwardFrom, total, Rebuilt, rebuilt, damaged, rebuildBlock, rebuildSlot, rebuildBlocks, rebuildNode, rebuildNodes, recoverRoot, recoverRebuilt, recoverShadow, recoverMedia, recoverJudged, recover, recoveryRefusal}
+use Rattle.call_laws.proofs.Judged.{Opened, recovery-opened, head-of}
 use Rattle.call_laws.proofs.Kept.{Bytes, Kept, kept-same, after-stores, media-formed, array-cells}
 
 -- a cache by its length and its bytes

@@ -1,10 +1,10 @@
 -- The path of a page from the top to its counter block: loading what is missing, and renewing it after a write.
 -- Assumes nothing.
 use Prim.Native.Nat.{ℕ, zero, suc, _+_, _-_, _*_, _/_, _%_, _^_}
-use mathlib.Core.Bool.{Bool, true, false, cond}
+use mathlib.Core.Bool.{cond}
 use mathlib.Core.List.{List, [], _∷_, _++_}
 use lib.Dec.{eqb}
-use lib.ListN.{getD, replicate}
+use lib.ListN.{replicate}
 use Rattle.words.specs.Bytes.{fromLe, toLe, part, put}
 use Rattle.memory_map.specs.Map.{cellOf}
 use Rattle.slot_map.specs.Slots.{slotOf}

@@ -10,7 +10,7 @@ use Rattle.examples.specs.Bench.{unlimited}
 use Rattle.calls.proofs.Run.{run}
 use Rattle.calls.proofs.Sparse.{sparse, upTo}
 use Rattle.cache.specs.Cache.{emptyCache}
-use Rattle.calls.specs.Calls.{Rebuilt, rebuilt, rebuildBlocks, rebuildNodes}
+use Rattle.calls.specs.Calls.{rebuilt, rebuildBlocks, rebuildNodes}
 use Rattle.deep_examples.specs.States.{start, after}
 
 written :

@@ -1,10 +1,10 @@
 -- A run of the bench program, command by command. Assumes nothing.
-use mathlib.Core.Path.{_≡_, refl, ap, ap₂, _∙_}
+use mathlib.Core.Path.{_≡_, refl, ap, _∙_}
 use mathlib.Core.List.{List, [], _∷_}
 use Prim.Native.Nat.{ℕ}
 use lib.ListN.{getD, replicate}
 use Rattle.answer.specs.declared.Answer.{Answer}
-use Rattle.answer.specs.declared.Answer.the-variants.{Done, Blank, Cut, Refused}
+use Rattle.answer.specs.declared.Answer.the-variants.{Done, Blank}
 use Rattle.calls.specs.Calls.{Module, Called, Reading, read, write, recover}
 use Rattle.examples.specs.Bench.{keys, unlimited, powered, bench, Command, w, r, p, k, Printed, wrote, gave, recovered}
 

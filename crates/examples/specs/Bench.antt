@@ -1,5 +1,5 @@
 -- The bench program on the definitions: it formats depth 1 with keys 0, 1, .. 47 and runs commands. Assumes nothing.
-use Prim.Native.Nat.{ℕ, zero, suc, _-_, _^_}
+use Prim.Native.Nat.{ℕ, _-_, _^_}
 use mathlib.Core.List.{List, [], _∷_}
 use lib.ListN.{getD, replicate}
 use Rattle.answer.specs.declared.Answer.{Answer}

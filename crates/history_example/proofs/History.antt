@@ -1,10 +1,10 @@
 -- The bench listing as a history is allowed, leaves the listing's last module, and makes the book that the listing shows. Assumes nothing.
 use mathlib.Core.Path.{_≡_, refl, sym, ap, subst, _∙_}
 use mathlib.Core.Logic.{inl, inr}
-use mathlib.Core.Bool.{Bool, true, false}
-use mathlib.Core.List.{List, [], _∷_}
+use mathlib.Core.Bool.{true, false}
+use mathlib.Core.List.{List, []}
 use mathlib.Core.Option.{some, none}
-use Prim.Native.Nat.{ℕ, zero, suc, _-_, _^_, _<_}
+use Prim.Native.Nat.{ℕ, _-_, _^_, _<_}
 use lib.Dec.{lit<}
 use lib.ListN.{length, replicate}
 use Rattle.memory_map.specs.Map.{slots}
@@ -16,7 +16,7 @@ use Rattle.cache.specs.Cache.{emptyCache}
 use Rattle.calls.proofs.Run.{run}
 use Rattle.calls.proofs.Sparse.{sparse, upTo}
 use Rattle.calls.specs.Calls.{Module, Called, Reading, write, read, recover, total, countsFrom}
-use Rattle.calls.specs.History.{Event, reads, writes, recovers, lists, powerCut, Book, emptyBook, entered, changed, step, bookAfter, bookOf, moduleAfter, commits, AreBytes, Admitted, awaits, Allowed, counter, storedMinor, Gives}
+use Rattle.calls.specs.History.{reads, writes, recovers, lists, powerCut, Book, emptyBook, entered, changed, step, bookAfter, bookOf, moduleAfter, commits, AreBytes, Admitted, awaits, Allowed, counter, storedMinor, Gives}
 use Rattle.examples.specs.Bench.{keys, unlimited, powered}
 use Rattle.bench_listing.specs.States.{m0, m1, m2, m3, m4, m4x, m5, m6, m7, m7x, m8, m9, m10, m10x, m11, m12, m13}
 use Rattle.bench_listing.proofs.Steps.{step1, step2, step3, step4, lost4, step5, step6, step7, lost7, step8, step9, step10, lost10, step11, step12, step13}

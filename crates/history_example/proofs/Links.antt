@@ -1,13 +1,11 @@
 -- One event of a history: what it leaves, what it enters in the book, and that it may stand there. Assumes nothing.
 use mathlib.Core.Path.{_≡_, refl, sym, ap, ap₂, _∙_, subst}
-use mathlib.Core.Bool.{Bool, true, false}
+use mathlib.Core.Bool.{Bool, true}
 use mathlib.Core.List.{List, [], _∷_}
-use Prim.Native.Nat.{ℕ, zero, suc, _-_, _^_, _<_}
+use Prim.Native.Nat.{ℕ, zero, suc, _-_, _^_}
 use lib.Dec.{ltb}
-use lib.ListN.{getD}
 use borrow.Author.Tests.{ltb-true}
 use mathlib.Core.Bool.{_&&_, and-eq-true-iff}
-use Rattle.answer.specs.declared.Answer.{Answer}
 use Rattle.answer.specs.Answer.{storesOf}
 use Rattle.calls.specs.Calls.{Module, Called, write}
 use Rattle.calls.specs.History.{Event, writes, Book, step, bookAfter, bookOf, moduleAfter, commits, entered, AreBytes, Admitted, awaits, Allowed}

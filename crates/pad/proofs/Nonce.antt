@@ -4,7 +4,7 @@ use mathlib.Core.List.{List, [], _∷_, _++_, append-nil}
 use Prim.Native.Nat.{ℕ, _/_, _%_, _^_, _<_}
 use native.Mathlib.Nat.{mod-eq-of-lt}
 use native.Mathlib.Omega.{arith}
-use lib.ListN.{length, take}
+use lib.ListN.{length}
 use Rattle.words.specs.Bytes.{toLe, wordsOf}
 use Rattle.words.proofs.Digits.{Below, digits-append}
 use Rattle.words.proofs.Words.{words-take, words-toLe}
