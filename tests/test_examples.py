@@ -6,6 +6,7 @@ Each example becomes a theorem, proved by running the definitions of the crates.
 and the script tells whether the files of the crates are what it makes, and so whether the model agrees with them.
 """
 import os
+import re
 import sys
 
 import model
@@ -211,10 +212,20 @@ use Rattle.calls.proofs.Sparse.{sparse}
     return text
 
 
+def used(imports, text):
+    """The lines of imports with the names that text has."""
+    kept = ""
+    for line in imports.splitlines():
+        module, names = line.rstrip("}").split(".{")
+        words = [name for name in names.split(", ") if re.search(r"(?<![^\s({])%s(?![^\s)}])" % re.escape(name.strip("_")), text)]
+        kept += "%s.{%s}\n" % (module, ", ".join(words)) if words else ""
+    return kept
+
+
 def theorems_file(made, crate, what, uses="", mark=""):
     names = [name for name, _ in made.modules]
-    text = MADE % what + IMPORTS + uses + "use Rattle.%s.specs.States.{%s}\n" % (crate, ", ".join(names))
-    return text + theorems_text(made, mark)
+    text = theorems_text(made, mark)
+    return MADE % what + used(IMPORTS + uses + "use Rattle.%s.specs.States.{%s}\n" % (crate, ", ".join(names)), text) + text
 
 
 def theorems_text(made, mark=""):
@@ -442,6 +453,8 @@ def cut_examples():
         before = recoveries.borrow("after%d" % allowance, after.value)
         answer, _ = recoveries.recover("recover%d" % allowance, keys(), number(UNLIMITED), before.lost(), "rebuilt%d" % allowance)
         assert answer.kind == "done"
+    writes.theorem("uncut", "write %s 256 %s unlimited start ≡ record { answer = Done %d 0; after = after%d }" % (
+        K.text, fill(64, 5).text, full, full))
     made = {
         "crates/cut_examples/specs/States.antt": states_file(writes, "A module, and what each cut of one write leaves of it."),
         "crates/cut_examples/proofs/Cuts.antt": theorems_file(
@@ -482,7 +495,7 @@ use Rattle.calls.specs.Calls.{rebuilt, rebuildBlocks, rebuildNodes}
 def deep_examples():
     made = File()
     start = made.name("start", written(formatted(2), (0, 1), (1024, 2)))
-    answer, after = made.write("written", keys(), number(7), fill(64, 3), number(13), start, "after")
+    answer, after = made.write("written", keys(), number(7), fill(64, 3), number(UNLIMITED), start, "after")
     assert answer == model.Answer("done", 0, 13, 0, 0)
     rebuilding(made, after, 2, 6)
     return {

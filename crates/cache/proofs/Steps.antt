@@ -10,7 +10,8 @@ use lib.Dec.{leb, eqb}
 use lib.ListN.{length, take, drop, getD, set, length-take, drop-of-length-le}
 use lib.Seq.{drop-cons, take-suc-set, getD-take, length-take-le}
 use borrow.Author.Tests.{eq-eqb, ne-eqb}
-use Rattle.memory_map.specs.Map.{slots, shadowStart, cellOf}
+use Rattle.memory_map.specs.Map.{slots, cellOf}
+use Rattle.memory_map.proofs.Laws.{shadow-after}
 use Rattle.slot_map.specs.Slots.{belongs}
 use Rattle.memory_map.specs.Map.Item.{shadow}
 use Rattle.words.specs.Bytes.{fromLe, part}
@@ -119,9 +120,9 @@ unfolding owner
 owner-step c s = ap (λ (k : ℕ). fromLe (part c k 8)) (zero-add (73 * s))
 
 pub shadow-step : (h : ℕ) (a : List ℕ) (n s : ℕ) → n ≡ cellOf h (shadow 0) → fromLe (part a (72 * n + 72 * s) 8) ≡ shadowOwner h a s
-unfolding shadowOwner cellOf
+unfolding shadowOwner
 shadow-step h a n s e =
-    let same : 72 * n + 72 * s ≡ 72 * (shadowStart h + s) = omega arith in
+    let same : 72 * n + 72 * s ≡ 72 * cellOf h (shadow s) = omega (arith, shadow-after h s) in
     ap (λ (k : ℕ). fromLe (part a k 8)) same
 
 -- `formed` by the slot that `bad_slot` finds

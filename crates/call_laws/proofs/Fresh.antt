@@ -7,7 +7,7 @@ use lib.Dec.{lit<}
 use lib.ListN.{length, replicate, length-append, length-replicate}
 use Rattle.words.specs.Bytes.{digits, toLe}
 use Rattle.words.proofs.Digits.{Below, below-nil, below-cons, below-append, below-digits}
-use Rattle.memory_map.specs.Map.{lines, nodes, levelStart, slots, shadowStart, cells, arrayLength}
+use Rattle.memory_map.specs.Map.{lines, nodes, levelStart, shadowStart, shadowCells, cells, arrayLength}
 use Rattle.counter.proofs.Laws.{length-counterBlock, below-counterBlock}
 use Rattle.control.specs.Control.{controlLength, mark, freshControl}
 use Rattle.cache.proofs.Laws.{length-empty, below-empty}
@@ -59,12 +59,12 @@ level-cells-bytes keys h (suc l) rest p =
 pub array-length : (keys : List ℕ) (h : ℕ) → length (freshArray keys h) ≡ arrayLength h
 unfolding freshArray arrayLength cells shadowStart
 array-length keys h =
-    let rest = levelCells keys h (suc h) (replicate (72 * slots h) 0) in
-    omega (arith, length-append (replicate (72 * lines h) 0) rest, length-replicate {A = ℕ} (72 * lines h) 0, length-replicate {A = ℕ} (72 * slots h) 0, level-cells-length keys h (suc h) (replicate (72 * slots h) 0))
+    let rest = levelCells keys h (suc h) (replicate (72 * shadowCells h) 0) in
+    omega (arith, length-append (replicate (72 * lines h) 0) rest, length-replicate {A = ℕ} (72 * lines h) 0, length-replicate {A = ℕ} (72 * shadowCells h) 0, level-cells-length keys h (suc h) (replicate (72 * shadowCells h) 0))
 
 pub array-bytes : (keys : List ℕ) (h : ℕ) → Below 256 (freshArray keys h)
 unfolding freshArray
-array-bytes keys h = below-append (replicate (72 * lines h) 0) _ (zeros-bytes (72 * lines h)) (level-cells-bytes keys h (suc h) _ (zeros-bytes (72 * slots h)))
+array-bytes keys h = below-append (replicate (72 * lines h) 0) _ (zeros-bytes (72 * lines h)) (level-cells-bytes keys h (suc h) _ (zeros-bytes (72 * shadowCells h)))
 
 pub control-length : (h r : ℕ) → length (freshControl h r) ≡ controlLength
 unfolding freshControl digits

@@ -5,10 +5,10 @@ use Rattle.cache.specs.Cache.{owner, dirty, content, withSlot, cellContent, sha
 use Rattle.calls.specs.Calls.{judged, formatRefusal, recoveryRefusal, accessRefusal, listRefusal, storing, countsFrom, freshNode, nodeCells, levelCells, freshArray, formatted, format, sideOk, lineText, answered, readLoaded, readPath, readJudged, newBlock, dataCell, writeBatch, writeStores, writtenCache, writeLoaded, writePath, writeJudged, forwardFrom, total, rebuildBlock, rebuildSlot, rebuildBlocks, rebuildNode, rebuildNodes, recoverRoot, recoverRebuilt, recoverShadow, recoverJudged, dirtyPages, occurrences, ListCall, codeForC, bufferForC, leftForC}
 use Rattle.calls.specs.Path.{evicted, loadNode, loadLevels, renewed, renewPath, tagsFrom}
 use Rattle.chacha20.specs.ChaCha20.{quarter, quarterRound, columnRound, diagonalRound, rounds, addStates, start, serialised, block}
-use Rattle.control.specs.Control.{depth, root, count, newRoot, placeOf, places, queue, inMap, validHead, valid, freshControl}
-use Rattle.counter.specs.Counter.{major, minors, counterBlock, withMinor, forward}
+use Rattle.control.specs.Control.{depth, root, count, newRoot, queued, places, queue, inMap, validHead, valid, freshControl}
+use Rattle.counter.specs.Counter.{major, minors, counterBlock, withMinor, forward, mayForward}
 use Rattle.journal.specs.Journal.{store, storeAll, stages, finish, batchStores, pendingStores}
-use Rattle.memory_map.specs.Map.{pages, lines, nodes, levelStart, slots, shadowStart, cells, arrayLength, cellOf, InMap}
+use Rattle.memory_map.specs.Map.{pages, lines, nodes, levelStart, slots, shadowStart, shadowCells, cells, arrayLength, cellOf, InMap}
 use Rattle.slot_map.specs.Slots.{cacheLength, slotOf, levelOf, belongs}
 use Rattle.pad.specs.Pad.{pad, xorBytes}
 use Rattle.siphash.specs.SipHash.{initial, lastWord, messageWords, sipRound, compress, compressAll, finalize, sipHash}
@@ -17,5 +17,5 @@ use Rattle.words.specs.Bytes.{number, digits, wordsOf, bytesOf}
 use Rattle.words.specs.Rotate.{rotl}
 
 unfoldable pub run : ℕ
-unfolding codeOf storesOf firstOf secondOf owner dirty content withSlot cellContent shadowOwner from stray anyOwner missingTop orElse badSlot flagsFormed isNothing formed holds current judged formatRefusal recoveryRefusal accessRefusal listRefusal storing countsFrom freshNode nodeCells levelCells freshArray formatted format sideOk lineText answered readLoaded readPath readJudged newBlock dataCell writeBatch writeStores writtenCache writeLoaded writePath writeJudged forwardFrom total rebuildBlock rebuildSlot rebuildBlocks rebuildNode rebuildNodes recoverRoot recoverRebuilt recoverShadow recoverJudged dirtyPages occurrences ListCall codeForC bufferForC leftForC evicted loadNode loadLevels renewed renewPath tagsFrom quarter quarterRound columnRound diagonalRound rounds addStates start serialised block depth root count newRoot placeOf places queue inMap validHead valid freshControl major minors counterBlock withMinor forward store storeAll stages finish batchStores pendingStores pages lines nodes levelStart slots shadowStart cells arrayLength cacheLength cellOf InMap slotOf levelOf belongs pad xorBytes initial lastWord messageWords sipRound compress compressAll finalize sipHash nodeInput nodeTag dataInput dataTag number digits wordsOf bytesOf rotl
+unfolding codeOf storesOf firstOf secondOf owner dirty content withSlot cellContent shadowOwner from stray anyOwner missingTop orElse badSlot flagsFormed isNothing formed holds current judged formatRefusal recoveryRefusal accessRefusal listRefusal storing countsFrom freshNode nodeCells levelCells freshArray formatted format sideOk lineText answered readLoaded readPath readJudged newBlock dataCell writeBatch writeStores writtenCache writeLoaded writePath writeJudged forwardFrom total rebuildBlock rebuildSlot rebuildBlocks rebuildNode rebuildNodes recoverRoot recoverRebuilt recoverShadow recoverJudged dirtyPages occurrences ListCall codeForC bufferForC leftForC evicted loadNode loadLevels renewed renewPath tagsFrom quarter quarterRound columnRound diagonalRound rounds addStates start serialised block depth root count newRoot queued places queue inMap validHead valid freshControl major minors counterBlock withMinor forward mayForward store storeAll stages finish batchStores pendingStores pages lines nodes levelStart slots shadowStart shadowCells cells arrayLength cacheLength cellOf InMap slotOf levelOf belongs pad xorBytes initial lastWord messageWords sipRound compress compressAll finalize sipHash nodeInput nodeTag dataInput dataTag number digits wordsOf bytesOf rotl
 run = 0

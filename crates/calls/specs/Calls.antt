@@ -8,10 +8,10 @@ use mathlib.Core.Option.{Option, none, some}
 use lib.Dec.{leb, eqb}
 use lib.ListN.{length, getD, replicate, take, drop}
 use Rattle.words.specs.Bytes.{fromLe, toLe, part, bytesOf}
-use Rattle.memory_map.specs.Map.{pageOf, placeOf, lines, nodes, slots, arrayLength, cellOf}
+use Rattle.memory_map.specs.Map.{pageOf, placeOf, lines, nodes, shadowCells, arrayLength, cellOf}
 use Rattle.slot_map.specs.Slots.{cacheLength, slotOf, levelOf}
 use Rattle.memory_map.specs.Map.Item.{node}
-use Rattle.counter.specs.Counter.{major, minors, minor, counterBlock, withMinor, phaseOf, forward}
+use Rattle.counter.specs.Counter.{major, minors, minor, counterBlock, withMinor, phaseOf, forward, mayForward}
 use Rattle.pad.specs.Pad.{pad, xorBytes}
 use Rattle.tag.specs.Tag.{nodeTag, dataTag}
 use Rattle.answer.specs.declared.Answer.{Answer}
@@ -209,7 +209,7 @@ unfoldable pub forwardFrom : List ℕ → ℕ → List ℕ → Option (List ℕ)
 forwardFrom a n [] = some []
 forwardFrom a n (s ∷ ss) =
     let p = phaseByte a n in
-    cond (leb p 3 && leb (forward s p) 127)
+    cond (mayForward s p)
     (elim (forwardFrom a (suc n) ss) [ none ↦ none | some ts ↦ some (forward s p ∷ ts) ])
     none
 
@@ -314,7 +314,7 @@ levelCells keys h zero rest = rest
 levelCells keys h (suc l) rest = levelCells keys h l (nodeCells keys l 0 (nodes h l) ++ rest)
 
 unfoldable pub freshArray : List ℕ → ℕ → List ℕ
-freshArray keys h = replicate (72 * lines h) 0 ++ levelCells keys h (suc h) (replicate (72 * slots h) 0)
+freshArray keys h = replicate (72 * lines h) 0 ++ levelCells keys h (suc h) (replicate (72 * shadowCells h) 0)
 
 abbrev pub freshRoot : List ℕ → (ℕ → ℕ) → ℕ → ℕ
 freshRoot keys f h = nodeTag keys (freshNode keys f h 0) h 0

@@ -14,7 +14,7 @@ use Rattle.words.proofs.Digits.{length-digits, number-exact}
 use Rattle.words.proofs.Parts.{part-part}
 use Rattle.words.proofs.Puts.{part-put-before, part-put-in, getD-part}
 use Rattle.memory_map.specs.Map.{cells}
-use Rattle.control.specs.Control.{mark, depth, root, count, newRoot, Cell, placeOf, places, queue, inMap, validHead, valid}
+use Rattle.control.specs.Control.{mark, depth, root, count, newRoot, Cell, queued, places, queue, inMap, validHead, valid}
 
 pub depth-at : (k : List ℕ) → depth k ≡ getD k 5 0
 unfolding depth
@@ -91,24 +91,24 @@ right-head {k} e =
 
 -- ---- places
 
-pub places-suc : (s : List ℕ) (at n : ℕ) → places s at (suc n) ≡ placeOf s at ∷ places s (at + 80) n
+pub places-suc : (s : List ℕ) (at n : ℕ) → places s at (suc n) ≡ queued s at ∷ places s (at + 80) n
 unfolding places
 places-suc s at n = refl
 
 -- the places after the first j: place j, and those after it
 pub places-from : (s : List ℕ) (at n j : ℕ) → j < n
-    → places s (at + 80 * j) (n - j) ≡ placeOf s (at + 80 * j) ∷ places s (at + 80 * (j + 1)) (n - (j + 1))
+    → places s (at + 80 * j) (n - j) ≡ queued s (at + 80 * j) ∷ places s (at + 80 * (j + 1)) (n - (j + 1))
 places-from s at n j h =
     let one : n - j ≡ suc (n - (j + 1)) = omega arith in
     let next : at + 80 * j + 80 ≡ at + 80 * (j + 1) = omega arith in
     ap (places s (at + 80 * j)) one ∙ places-suc s (at + 80 * j) (n - (j + 1))
-    ∙ ap (λ (i : ℕ). placeOf s (at + 80 * j) ∷ places s i (n - (j + 1))) next
+    ∙ ap (λ (i : ℕ). queued s (at + 80 * j) ∷ places s i (n - (j + 1))) next
 
 -- the cell numbers from place j on: place j is past the bound, or only those after it count
 module _ (bound : ℕ) (s : List ℕ) (at n j : ℕ) where
   in-map-from : j < n
       → inMap bound (places s (at + 80 * j) (n - j)) ≡ ltb (fromLe (part s (at + 80 * j) 8)) bound && inMap bound (places s (at + 80 * (j + 1)) (n - (j + 1)))
-  unfolding inMap placeOf
+  unfolding inMap queued
   in-map-from h = ap (inMap bound) (places-from s at n j h)
 
   pub in-map-past : j < n → bound ≤ fromLe (part s (at + 80 * j) 8) → inMap bound (places s (at + 80 * j) (n - j)) ≡ false
@@ -128,7 +128,7 @@ module _ (bound : ℕ) (s : List ℕ) (at n j : ℕ) where
 
 -- each of the places is below the bound
 pub in-map-at : (bound : ℕ) (s : List ℕ) (at n j : ℕ) → inMap bound (places s at n) ≡ true → j < n → fromLe (part s (at + 80 * j) 8) < bound
-unfolding inMap places placeOf
+unfolding inMap places queued
 in-map-at bound s at zero j e h = absurd (not-suc-le-zero h)
 in-map-at bound s at (suc n) zero e h =
     let both = and-eq-true-iff (ltb (fromLe (part s at 8)) bound) (inMap bound (places s (at + 80) n)) .0 e in
@@ -155,20 +155,20 @@ pub take-places : (s : List ℕ) (at n j : ℕ) → j ≤ n → take j (places s
 unfolding places
 take-places s at n zero h = refl
 take-places s at zero (suc j) h = absurd (not-suc-le-zero h)
-take-places s at (suc n) (suc j) h = ap (λ (l : List Cell). placeOf s at ∷ l) (take-places s (at + 80) n j (le-of-suc-le-suc h))
+take-places s at (suc n) (suc j) h = ap (λ (l : List Cell). queued s at ∷ l) (take-places s (at + 80) n j (le-of-suc-le-suc h))
 
-pub places-snoc : (s : List ℕ) (at n : ℕ) → places s at (n + 1) ≡ places s at n ++ (placeOf s (at + 80 * n) ∷ [])
+pub places-snoc : (s : List ℕ) (at n : ℕ) → places s at (n + 1) ≡ places s at n ++ (queued s (at + 80 * n) ∷ [])
 unfolding places
 places-snoc s at zero = rw add-zero
 places-snoc s at (suc n) =
     let next : at + 80 + 80 * n ≡ at + 80 * suc n = omega arith in
     ap (λ (k : ℕ). places s at k) (suc-add n 1)
-    ∙ ap (λ (l : List Cell). placeOf s at ∷ l)
-    (places-snoc s (at + 80) n ∙ ap (λ (i : ℕ). places s (at + 80) n ++ (placeOf s i ∷ [])) next)
+    ∙ ap (λ (l : List Cell). queued s at ∷ l)
+    (places-snoc s (at + 80) n ∙ ap (λ (i : ℕ). places s (at + 80) n ++ (queued s i ∷ [])) next)
 
 -- the places of a part
 places-within : (s : List ℕ) (at m i n : ℕ) → i + 80 * n ≤ m → places (part s at m) i n ≡ places s (at + i) n
-unfolding places placeOf
+unfolding places queued
 places-within s at m i zero h = refl
 places-within s at m i (suc n) h =
     ap₂ {C = List Cell} (λ (x : ℕ) (l : List Cell). record { number = x; bytes = part (part s at m) (i + 8) 72 } ∷ l)
@@ -187,7 +187,7 @@ same-places s t at i n e =
 -- one more place, behind n others
 pub push-place : (s : List ℕ) (n x : ℕ) (bs : List ℕ) → length bs ≡ 72 → 80 * (n + 1) ≤ length s → x < 2 ^ 64
     → places (put s (80 * n) (toLe 8 x ++ bs)) 0 (n + 1) ≡ places s 0 n ++ (record { number = x; bytes = bs } ∷ [])
-unfolding placeOf
+unfolding queued
 push-place s n x bs l h w =
     let word = length-digits 256 8 x in
     let size = length-append (toLe 8 x) bs in
@@ -199,7 +199,7 @@ push-place s n x bs l h w =
     part-put-in s (80 * n) (toLe 8 x ++ bs) (omega arith) 8 72 (omega arith)
     ∙ ap (take 72) (drop-at (toLe 8 x) bs 8 word) ∙ take-all 72 bs (omega arith) in
     places-snoc t 0 n
-    ∙ ap₂ {C = List Cell} (λ (l : List Cell) (i : ℕ). l ++ (placeOf t i ∷ []))
+    ∙ ap₂ {C = List Cell} (λ (l : List Cell) (i : ℕ). l ++ (queued t i ∷ []))
     (same-places t s 0 0 n (part-put-before s (80 * n) (toLe 8 x ++ bs) (omega arith) 0 (80 * n) (omega arith))) (zero-add (80 * n))
     ∙ ap₂ {C = List Cell} (λ (y : ℕ) (b : List ℕ). places s 0 n ++ (record { number = y; bytes = b } ∷ []))
     (ap fromLe number ∙ number-exact 256 8 x (lit< tt) w) cell

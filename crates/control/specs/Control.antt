@@ -46,13 +46,13 @@ pub record Cell : Type 0 where
   pub bytes : List ℕ
 
 -- a place: a cell number, 8 bytes, then the cell
-unfoldable pub placeOf : List ℕ → ℕ → Cell
-placeOf s at = record { number = fromLe (part s at 8); bytes = part s (at + 8) 72 }
+unfoldable pub queued : List ℕ → ℕ → Cell
+queued s at = record { number = fromLe (part s at 8); bytes = part s (at + 8) 72 }
 
 -- n places of s, one after the other from index at
 unfoldable pub places : List ℕ → ℕ → ℕ → List Cell
 places s at zero = []
-places s at (suc n) = placeOf s at ∷ places s (at + 80) n
+places s at (suc n) = queued s at ∷ places s (at + 80) n
 
 -- where queue place j starts
 abbrev pub placeAt : ℕ → ℕ

@@ -1,11 +1,8 @@
 -- Written by tests/test_examples.py. A write with an eviction, a stop-loss store and a data cell, under each allowance. Assumes nothing.
 use mathlib.Core.Path.{_≡_, refl}
-use mathlib.Core.List.{List, [], _∷_}
-use Prim.Native.Nat.{ℕ}
-use lib.ListN.{replicate, drop}
-use Rattle.words.specs.Bytes.{put}
-use Rattle.answer.specs.declared.Answer.the-variants.{Done, Blank, Cut, Refused}
-use Rattle.calls.specs.Calls.{Module, read, write, recover, format}
+use lib.ListN.{replicate}
+use Rattle.answer.specs.declared.Answer.the-variants.{Done, Cut}
+use Rattle.calls.specs.Calls.{write}
 use Rattle.examples.specs.Bench.{unlimited}
 use Rattle.calls.proofs.Run.{run}
 use Rattle.calls.proofs.Sparse.{sparse, upTo}
@@ -70,3 +67,8 @@ cut11 :
     write (upTo 48 0) 256 (replicate 64 5) 11 start ≡ record { answer = Done 11 0; after = after11 }
 unfolding run sparse upTo start after11
 cut11 = refl
+
+uncut :
+    write (upTo 48 0) 256 (replicate 64 5) unlimited start ≡ record { answer = Done 11 0; after = after11 }
+unfolding run sparse upTo start after11
+uncut = refl

@@ -1,11 +1,9 @@
 -- Written by tests/test_examples.py. Depth 2: a write that evicts a counter block and a node, and what recovery rebuilds after it. Assumes nothing.
 use mathlib.Core.Path.{_≡_, refl}
-use mathlib.Core.List.{List, [], _∷_}
-use Prim.Native.Nat.{ℕ}
-use lib.ListN.{replicate, drop}
-use Rattle.words.specs.Bytes.{put}
-use Rattle.answer.specs.declared.Answer.the-variants.{Done, Blank, Cut, Refused}
-use Rattle.calls.specs.Calls.{Module, read, write, recover, format}
+use mathlib.Core.List.{[], _∷_}
+use lib.ListN.{replicate}
+use Rattle.answer.specs.declared.Answer.the-variants.{Done}
+use Rattle.calls.specs.Calls.{write}
 use Rattle.examples.specs.Bench.{unlimited}
 use Rattle.calls.proofs.Run.{run}
 use Rattle.calls.proofs.Sparse.{sparse, upTo}
@@ -14,7 +12,7 @@ use Rattle.calls.specs.Calls.{rebuilt, rebuildBlocks, rebuildNodes}
 use Rattle.deep_examples.specs.States.{start, after}
 
 written :
-    write (upTo 48 0) 7 (replicate 64 3) 13 start ≡ record { answer = Done 13 0; after = after }
+    write (upTo 48 0) 7 (replicate 64 3) unlimited start ≡ record { answer = Done 13 0; after = after }
 unfolding run sparse upTo start after
 written = refl
 

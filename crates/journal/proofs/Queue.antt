@@ -11,7 +11,7 @@ use Rattle.words.proofs.Digits.{Below, below-take, below-drop, length-digits, d
 use Rattle.words.proofs.Parts.{length-part, length-put, part-add, put-append, put-nil}
 use Rattle.words.proofs.Puts.{part-put-same, part-put-after, part-put-in, getD-part}
 use Rattle.words.proofs.Words.{part-lt}
-use Rattle.control.specs.Control.{Cell, controlLength, placeAt, placeOf, places, queue, count, newRoot}
+use Rattle.control.specs.Control.{Cell, controlLength, placeAt, queued, places, queue, count, newRoot}
 use Rattle.control.proofs.Laws.{count-at, new-root-at, same-places}
 use Rattle.journal.specs.Journal.{Store, Media, media, store, storeAll, stages, finish, batchStores, pendingStores, made}
 use Rattle.journal.specs.Journal.Store.{commit}
@@ -25,7 +25,7 @@ pub record Whole (c : Cell) : Type 0 where
   pub bytes : Below 256 (c .bytes)
 
 pub whole-places : (s : List ℕ) (at n : ℕ) → at + 80 * n ≤ length s → Below 256 s → Each Whole (places s at n)
-unfolding places placeOf
+unfolding places queued
 whole-places s at zero h b = none
 whole-places s at (suc n) h b =
     more
@@ -52,7 +52,7 @@ length-laid (more {x = c} {xs = cs} w ws) = omega (arith, length-append (placed 
 
 -- the places that hold the cells are those cells
 pub places-laid : {cs : List Cell} → Each Whole cs → places (laid cs) 0 (length cs) ≡ cs
-unfolding laid places placeOf
+unfolding laid places queued
 places-laid none = refl
 places-laid (more {x = c} {xs = cs} w ws) =
     let number : part (placed c ++ laid cs) 0 8 ≡ toLe 8 (c .number) =
@@ -70,7 +70,7 @@ places-laid (more {x = c} {xs = cs} w ws) =
 
 -- the cells of places lie as the places do
 pub laid-places : (s : List ℕ) (at n : ℕ) → at + 80 * n ≤ length s → Below 256 s → laid (places s at n) ≡ part s at (80 * n)
-unfolding laid places placeOf
+unfolding laid places queued
 laid-places s at zero h b = refl
 laid-places s at (suc n) h b =
     let all : 80 * suc n ≡ 80 + 80 * n = omega arith in

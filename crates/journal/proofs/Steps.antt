@@ -9,7 +9,7 @@ use lib.Seq.{take-nil, take-all}
 use Rattle.words.specs.Bytes.{fromLe, toLe, part, put}
 use Rattle.words.proofs.Digits.{Below, length-digits}
 use Rattle.words.proofs.Parts.{put-one, put-append}
-use Rattle.control.specs.Control.{Cell, controlLength, placeOf, places, queue, inMap, count, newRoot}
+use Rattle.control.specs.Control.{Cell, controlLength, queued, places, queue, inMap, count, newRoot}
 use Rattle.control.proofs.Laws.{in-map-take, places-snoc, length-places, take-places}
 use Rattle.journal.specs.Journal.{Store, Media, media, store, storeAll, finish, batchStores, pendingStores, made, Stored}
 use Rattle.journal.specs.Journal.Store.{cell, root, clear}
@@ -25,13 +25,13 @@ no-cell m k at = refl
 -- one more cell of the queue
 pub next-cell : (m : Media) (a k : List ℕ) (at j : ℕ) → media a k ≡ storeAll m (map cell (places k at j))
     → media (put a (72 * fromLe (part k (at + 80 * j) 8)) (part k (at + 80 * j + 8) 72)) k ≡ storeAll m (map cell (places k at (j + 1)))
-unfolding store storeAll placeOf
+unfolding store storeAll queued
 next-cell m a k at j e =
-    ap (λ (x : Media). store x (cell (placeOf k (at + 80 * j)))) e
+    ap (λ (x : Media). store x (cell (queued k (at + 80 * j)))) e
     ∙ sym
     (ap (λ (l : List Cell). storeAll m (map cell l)) (places-snoc k at j)
-    ∙ ap (storeAll m) (map-append cell (places k at j) (placeOf k (at + 80 * j) ∷ []))
-    ∙ store-append m (map cell (places k at j)) (cell (placeOf k (at + 80 * j)) ∷ []))
+    ∙ ap (storeAll m) (map-append cell (places k at j) (queued k (at + 80 * j) ∷ []))
+    ∙ store-append m (map cell (places k at j)) (cell (queued k (at + 80 * j)) ∷ []))
 
 -- the first t of the pending cells
 pub queue-front : (bound : ℕ) (k : List ℕ) (t : ℕ) → t ≤ count k → inMap bound (queue k) ≡ true → inMap bound (places k 24 t) ≡ true

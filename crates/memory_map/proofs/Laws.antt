@@ -7,7 +7,7 @@ use native.Mathlib.Decide.{le-ind}
 use native.Mathlib.Numerals.{add-one}
 use native.Mathlib.Omega.{arith}
 use Rattle.words.proofs.Order.{lt-eq-gt}
-use Rattle.memory_map.specs.Map.{pages, lines, nodes, levelStart, slots, shadowStart, cells, Item, cellOf, InMap}
+use Rattle.memory_map.specs.Map.{pages, lines, nodes, levelStart, slots, shadowStart, shadowCells, cells, Item, cellOf, InMap}
 use Rattle.memory_map.specs.Map.Item.{line, node, shadow}
 
 -- what holds at 0, 1, 2 and 3 holds up to 3
@@ -43,7 +43,7 @@ unfolding shadowStart
 level-shadow h l i p q = omega (arith, level-mono h (suc l) (suc h) (suc-le-suc p), level-next h l)
 
 pub cells-small : (h : ℕ) → h ≤ 3 → cells h ≤ 33363
-unfolding cells shadowStart levelStart slots lines pages nodes
+unfolding cells shadowStart shadowCells levelStart slots lines pages nodes
 cells-small = upTo3 (λ h. cells h ≤ 33363) (omega arith) (omega arith) (omega arith) (omega arith)
 
 pub cells-shadow : (h : ℕ) → levelStart h (suc h) ≤ cells h
@@ -66,11 +66,18 @@ pub slots-small : {r h : ℕ} → r ≡ slots h → h ≤ 3 → r ≤ 10
 unfolding slots
 slots-small e p = omega arith
 
+pub shadow-small : {r h : ℕ} → r ≡ shadowCells h → h ≤ 3 → r ≤ 10
+unfolding shadowCells
+shadow-small e p = slots-small e p
+
 pub cell-within : (h : ℕ) (x : Item) → InMap h x → cellOf h x < cells h
-unfolding InMap cellOf cells shadowStart
+unfolding InMap cellOf cells shadowStart shadowCells
 cell-within h (line n) m = omega (arith, level-lines h (suc h))
 cell-within h (node l i) m = omega (arith, level-shadow h l i (m .0) (m .1))
 cell-within h (shadow s) m = omega arith
+
+pub cell-small : {r h : ℕ} (x : Item) → r ≡ cellOf h x → InMap h x → h ≤ 3 → r < 33363
+cell-small {r} {h} x e m p = omega (arith, cell-within h x m, cells-small h p)
 
 -- two levels' cells are apart
 apart : (h l i k j : ℕ) → l < k → i < nodes h l → levelStart h l + i ≡ levelStart h k + j → ⊥
@@ -103,11 +110,20 @@ pub node-cell : (h l i : ℕ) → levelStart h l + i ≡ cellOf h (node l i)
 unfolding cellOf
 node-cell h l i = refl
 
+-- shadow cells follow each other, within the array
+pub shadow-room : (h : ℕ) → cellOf h (shadow 0) + slots h ≤ cells h
+unfolding cellOf cells shadowCells
+shadow-room h = omega arith
+
+pub shadow-after : (h s : ℕ) → cellOf h (shadow s) ≡ cellOf h (shadow 0) + s
+unfolding cellOf
+shadow-after h s = omega arith
+
 pub shadow-cell : (h s : ℕ) → levelStart h (h + 1) + s ≡ cellOf h (shadow s)
 unfolding cellOf shadowStart
 shadow-cell h s = rw add-one
 
-pub all-cells : (h : ℕ) → levelStart h (h + 1) + slots h ≡ cells h
+pub all-cells : (h : ℕ) → levelStart h (h + 1) + shadowCells h ≡ cells h
 unfolding cells shadowStart
 all-cells h = rw add-one
 

@@ -34,8 +34,11 @@ slots h = 4 + 2 * h
 unfoldable pub shadowStart : ℕ → ℕ
 shadowStart h = levelStart h (suc h)
 
+unfoldable pub shadowCells : ℕ → ℕ
+shadowCells h = slots h
+
 unfoldable pub cells : ℕ → ℕ
-cells h = shadowStart h + slots h
+cells h = shadowStart h + shadowCells h
 
 -- a cell is 64 bytes of content and 8 side bytes
 unfoldable pub arrayLength : ℕ → ℕ

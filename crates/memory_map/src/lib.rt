@@ -1,6 +1,6 @@
 // The map of a module of depth 1, 2 or 3: where lines, counter blocks, nodes and shadow entries lie.
 ghost use mathlib.Core.Path.{_≡_};
-ghost use Prim.Native.Nat.{_+_, _<_, _≤_};
+ghost use Prim.Native.Nat.{_+_, _≤_};
 ghost use Rattle.memory_map.specs.Map.{
   line,
   node,
@@ -10,6 +10,7 @@ ghost use Rattle.memory_map.specs.Map.{
   pageOf,
   placeOf,
   levelStart,
+  shadowCells,
   arrayLength,
   pages as pagesOf,
   lines as linesOf,
@@ -72,6 +73,13 @@ pub fn slots(h: usize) -> usize
     4 + 2 * h
 }
 
+pub fn shadow_cells(h: usize) -> usize
+    requires { ⌜ (1 ≤ h) × (h ≤ 3) ⌝ }
+    ensures { λ r. ⌜ r ≡ shadowCells h ⌝ }
+{
+    slots(h)
+}
+
 pub fn line_cell(h: usize, n: usize) -> usize
     ensures { λ r. ⌜ r ≡ cellOf h (line n) ⌝ }
 {
@@ -96,7 +104,7 @@ pub fn cells(h: usize) -> usize
     requires { ⌜ (1 ≤ h) × (h ≤ 3) ⌝ }
     ensures { λ r. ⌜ r ≡ cellsOf h ⌝ }
 {
-    slots(h) + level_start(h, h + 1)
+    shadow_cells(h) + level_start(h, h + 1)
 }
 
 pub fn array_length(h: usize) -> usize

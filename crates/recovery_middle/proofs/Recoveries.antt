@@ -1,11 +1,8 @@
 -- Written by tests/test_examples.py. Recovery from cuts of the write of the cut examples, with a zero cache. Assumes nothing.
 use mathlib.Core.Path.{_≡_, refl}
-use mathlib.Core.List.{List, [], _∷_}
-use Prim.Native.Nat.{ℕ}
-use lib.ListN.{replicate, drop}
-use Rattle.words.specs.Bytes.{put}
-use Rattle.answer.specs.declared.Answer.the-variants.{Done, Blank, Cut, Refused}
-use Rattle.calls.specs.Calls.{Module, read, write, recover, format}
+use lib.ListN.{replicate}
+use Rattle.answer.specs.declared.Answer.the-variants.{Done}
+use Rattle.calls.specs.Calls.{recover}
 use Rattle.examples.specs.Bench.{unlimited}
 use Rattle.calls.proofs.Run.{run}
 use Rattle.calls.proofs.Sparse.{sparse, upTo}

@@ -4,8 +4,8 @@ use mathlib.Core.List.{List, [], _∷_}
 use Prim.Native.Nat.{ℕ}
 use lib.ListN.{replicate, drop}
 use Rattle.words.specs.Bytes.{put}
-use Rattle.answer.specs.declared.Answer.the-variants.{Done, Blank, Cut, Refused}
-use Rattle.calls.specs.Calls.{Module, read, write, recover, format}
+use Rattle.answer.specs.declared.Answer.the-variants.{Done, Refused}
+use Rattle.calls.specs.Calls.{read, write, recover, format}
 use Rattle.examples.specs.Bench.{unlimited}
 use Rattle.calls.proofs.Run.{run}
 use Rattle.calls.proofs.Sparse.{sparse, upTo}

@@ -2,15 +2,14 @@
 use Prim.Native.Nat.{ℕ}
 use mathlib.Core.Bool.{cond}
 use mathlib.Core.List.{List, [], _∷_}
-use lib.Dec.{leb}
 use lib.ListN.{getD, replicate}
-use Rattle.counter.specs.Counter.{forward, withMinor}
+use Rattle.counter.specs.Counter.{forward, mayForward, withMinor}
 use Rattle.memory_map.specs.Map.{cellOf}
 use Rattle.memory_map.specs.Map.Item.{line, node, shadow}
 
--- a minor brought forward to a phase, and whether it may stand: not past 127
+-- a minor brought forward to a phase, and 1 where it may be, 0 where it is refused
 abbrev pub brought : ℕ → ℕ → List ℕ
-brought s p = forward s p ∷ cond (leb (forward s p) 127) 1 0 ∷ []
+brought s p = forward s p ∷ cond (mayForward s p) 1 0 ∷ []
 
 -- 64 zero bytes with 127 as minor 1
 abbrev pub block : List ℕ

@@ -3,8 +3,8 @@ use mathlib.Core.Path.{ap, _∙_}
 use Prim.Native.Nat.{_+_, _*_}
 use native.Mathlib.Omega.{arith}
 use Rattle.words.specs.Bytes.{fromLe, part}
-use Rattle.memory_map.specs.Map.{slots, cells, arrayLength, cellOf, InMap}
-use Rattle.memory_map.proofs.Laws.{cells-small}
+use Rattle.memory_map.specs.Map.{slots, arrayLength, InMap}
+use Rattle.memory_map.proofs.Laws.{cell-small, shadow-room}
 use Rattle.cache.specs.Cache.{shadowOwner, badSlot}
 use Rattle.cache.proofs.Steps.{owners-are, shadow-step}
 use borrow.Author.Needs.{needs}
@@ -16,15 +16,15 @@ unfolding InMap slots
 shadow-cell-requires c κs = omega arith
 
 mul-owners-at : tie.Need-mul-owners-at
-unfolding cellOf cells
-mul-owners-at c = omega (arith, cells-small (c .before .before .args .h) (c .before .before .pre .1 .0))
+unfolding InMap slots
+mul-owners-at c = omega (arith, cell-small _ (c .shadow-cell .ensures) (omega arith) (c .before .before .pre .1 .0))
 
 slots-requires : tie.Need-slots-requires
 slots-requires c κs = search needs
 
 owners-at-requires : tie.Need-owners-at-requires
-unfolding cellOf arrayLength cells slots
-owners-at-requires c κs = omega arith
+unfolding arrayLength slots
+owners-at-requires c κs = omega (arith, shadow-room (c .before .before .before .args .h))
 
 bad-slot-requires : tie.Need-bad-slot-requires
 bad-slot-requires c κs = search needs

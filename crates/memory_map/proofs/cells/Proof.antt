@@ -4,13 +4,13 @@ use mathlib.Core.Path.{_∙_, ap₂}
 use Prim.Native.Nat.{_+_}
 use native.Mathlib.Nat.{add-comm}
 use native.Mathlib.Omega.{arith}
-use Rattle.memory_map.specs.Map.{slots, levelStart}
-use Rattle.memory_map.proofs.Laws.{all-cells, start-small, slots-small}
+use Rattle.memory_map.specs.Map.{shadowCells, levelStart}
+use Rattle.memory_map.proofs.Laws.{all-cells, start-small, shadow-small}
 use Rattle.memory_map.proofs.cells.Statement.{statement}
 use Rattle.memory_map.proofs.cells.Tie as tie
 
-slots-requires : tie.Need-slots-requires
-slots-requires c κs = search needs
+shadow-cells-requires : tie.Need-shadow-cells-requires
+shadow-cells-requires c κs = search needs
 
 add-level-start : tie.Need-add-level-start
 add-level-start c = search needs
@@ -21,13 +21,13 @@ level-start-requires c κs = search needs
 add-result : tie.Need-add-result
 add-result c =
     let start = c .before .before in
-    omega (arith, start-small (c .level-start .ensures) (start .pre .1) (omega arith), slots-small (c .before .slots .ensures) (omega (arith, start .pre .1)))
+    omega (arith, start-small (c .level-start .ensures) (start .pre .1) (omega arith), shadow-small (c .before .shadow-cells .ensures) (omega (arith, start .pre .1)))
 
 returns : tie.Need-returns
 returns c =
     let h = c .before .before .args .h in
-    ap₂ _+_ (c .before .slots .ensures) (c .level-start .ensures) ∙ add-comm (slots h) (levelStart h (h + 1)) ∙ all-cells h
+    ap₂ _+_ (c .before .shadow-cells .ensures) (c .level-start .ensures) ∙ add-comm (shadowCells h) (levelStart h (h + 1)) ∙ all-cells h
 
 pub cells-spec : {M : Type 1} → statement M
 cells-spec =
-    tie.close (tie.spec slots-requires add-level-start level-start-requires add-result returns)
+    tie.close (tie.spec shadow-cells-requires add-level-start level-start-requires add-result returns)
