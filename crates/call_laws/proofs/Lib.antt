@@ -5,3 +5,5 @@ pub mod Judged
 pub mod Kept
 pub mod Loads
 pub mod Rebuilt
+pub mod Recovered
+pub mod Tree

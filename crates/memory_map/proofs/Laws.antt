@@ -1,11 +1,13 @@
 -- Laws of the map: different items have different cells, all within the array. Assumes nothing.
-use mathlib.Core.Path.{_≡_, refl, sym, ap, ap₂, subst}
+use mathlib.Core.Path.{_≡_, refl, sym, ap, ap₂, _∙_, subst}
 use mathlib.Core.Logic.{_⊎_, inl, inr}
 use Prim.Native.Nat.{ℕ, zero, suc, _+_, _-_, _*_, _%_, _^_, _<_, _≤_, suc-le-suc, zero-le}
-use native.Mathlib.Nat.{le-refl, add-left-cancel}
+use native.Mathlib.Nat.{le-refl, add-left-cancel, pow-succ'}
 use native.Mathlib.Decide.{le-ind}
 use native.Mathlib.Numerals.{add-one}
 use native.Mathlib.Omega.{arith}
+use lib.Dec.{lit<}
+use Rattle.words.proofs.Digits.{pow-pos}
 use Rattle.words.proofs.Order.{lt-eq-gt}
 use Rattle.memory_map.specs.Map.{pages, lines, nodes, levelStart, slots, shadowStart, shadowCells, cells, Item, cellOf, InMap}
 use Rattle.memory_map.specs.Map.Item.{line, node, shadow}
@@ -37,6 +39,21 @@ level-lines h l = level-mono h 0 l zero-le
 pub level-next : (h l : ℕ) → levelStart h (suc l) ≡ levelStart h l + nodes h l
 unfolding levelStart
 level-next h l = refl
+
+-- eight children each, and the pages at the bottom
+pub nodes-below : (h l : ℕ) → suc l ≤ h → nodes h l ≡ 8 * nodes h (suc l)
+unfolding nodes
+nodes-below h l p =
+    let step : h - l ≡ suc (h - suc l) = omega arith in
+    ap (λ (k : ℕ). 8 ^ k) step ∙ pow-succ' 8 (h - suc l)
+
+pub nodes-bottom : (h : ℕ) → nodes h 0 ≡ pages h
+unfolding nodes pages
+nodes-bottom h = let all : h - 0 ≡ h = omega arith in ap (λ (k : ℕ). 8 ^ k) all
+
+pub nodes-some : (h l : ℕ) → 0 < nodes h l
+unfolding nodes
+nodes-some h l = pow-pos 8 (h - l) (lit< tt)
 
 pub level-shadow : (h l i : ℕ) → l ≤ h → i < nodes h l → levelStart h l + i < shadowStart h
 unfolding shadowStart

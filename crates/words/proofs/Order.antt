@@ -19,3 +19,11 @@ lt-eq-gt a b = go (decLt a b) (decLt b a)
     go (yes p) q = inl p
     go (no p) (yes q) = inr (inr q)
     go (no p) (no q) = inr (inl (omega arith))
+
+pub eq-or-not : (a b : ℕ) → (a ≡ b) ⊎ (a ≡ b → ⊥)
+eq-or-not a b = go (lt-eq-gt a b)
+  where
+    go : (a < b) ⊎ ((a ≡ b) ⊎ (b < a)) → (a ≡ b) ⊎ (a ≡ b → ⊥)
+    go (inl p) = inr (λ e. omega arith)
+    go (inr (inl e)) = inl e
+    go (inr (inr p)) = inr (λ e. omega arith)

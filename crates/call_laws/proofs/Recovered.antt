@@ -1,0 +1,356 @@
+-- Recovery from what a power failure leaves: where the array has the fresh tree of some counts but for what the shadow lists, and phases
+-- that bring the listed blocks forward to them, the rebuilt cache gives every block and node of that tree. Assumes nothing.
+use mathlib.Core.Path.{_≡_, refl, sym, ap, ap₂, _∙_, subst}
+use mathlib.Core.Logic.{_⊎_, inl, inr}
+use mathlib.Core.Bool.{Bool, true, false, _&&_, cond, false≢true}
+use mathlib.Core.List.{List, [], _∷_, _++_}
+use mathlib.Core.Option.{Option, none, some}
+use Prim.Native.Nat.{ℕ, zero, suc, _+_, _-_, _*_, _/_, _^_, _≤_, _<_, zero-le}
+use native.Mathlib.Nat.{le-refl}
+use native.Mathlib.Omega.{arith}
+use borrow.Author.Tests.{le-leb, eq-eqb}
+use lib.ListN.{length, getD, take, drop}
+use Rattle.words.proofs.Order.{eq-or-not}
+use Rattle.memory_map.specs.Map.{pageOf, placeOf, pages, lines, nodes, slots, cellOf}
+use Rattle.memory_map.specs.Map.Item.{node}
+use Rattle.memory_map.proofs.Laws.{nodes-small, nodes-below, nodes-bottom, nodes-some}
+use Rattle.slot_map.specs.Slots.{cacheLength, slotOf, levelOf}
+use Rattle.slot_map.proofs.Laws.{slot-within, level-slot, level-low, level-high, level-within, belongs-node}
+use Rattle.counter.specs.Counter.{major, minors, minor, counterBlock, phaseOf, forward, mayForward}
+use Rattle.counter.proofs.Laws.{length-minors, forward-reaches}
+use Rattle.tag.specs.Tag.{nodeTag}
+use Rattle.cache.specs.Cache.{owner, dirty, content, shadowOwner, shadowOwners, cellContent, withSlot, emptyCache, from, topSlot, holds, current}
+use Rattle.cache.proofs.Laws.{Owned, Formed, not-bad, length-with, owner-same, dirty-same, content-same, owner-other, dirty-other, content-other, length-empty, owner-empty, dirty-empty, holds-owner, owner-holds, current-cached, current-missing}
+use Rattle.answer.specs.declared.Answer.the-variants.{Done}
+use Rattle.control.specs.Control.{depth, root}
+use Rattle.calls.specs.Calls.{phaseByte, forwardFrom, countsFrom, freshNode, total, Rebuilt, rebuilt, damaged, rebuildBlock, rebuildSlot, rebuildBlocks, rebuildNode, rebuildNodes, Module, Called, freshRoot, recoverRoot, recoverRebuilt, recoverShadow, recoverMedia, refuseAfter}
+use Rattle.calls.specs.Path.{childTags}
+use Rattle.call_laws.proofs.Tree.{tags-agree, fresh-minor}
+use Rattle.call_laws.proofs.Judged.{page-inside}
+use Rattle.call_laws.proofs.Fresh.{fresh-length}
+
+-- what the media keep of counts f
+pub record Durable (keys : List ℕ) (h : ℕ) (f : ℕ → ℕ) (a : List ℕ) : Type 0 where
+  pub small : (x : ℕ) → f x < 128
+  pub owners : Owned h (shadowOwner h a)
+  pub stored : (l i : ℕ) → l ≤ h → i < nodes h l → (shadowOwner h a (slotOf l i) ≡ suc i → ⊥) → cellContent a (cellOf h (node l i)) ≡ freshNode keys f l i
+  pub majors : (p : ℕ) → p < pages h → major (cellContent a (cellOf h (node 0 p))) ≡ 0
+  pub behind : (p j : ℕ) → p < pages h → j < 64 → minor (cellContent a (cellOf h (node 0 p))) j ≤ f (64 * p + j)
+  pub near : (p j : ℕ) → p < pages h → j < 64 → f (64 * p + j) ≤ minor (cellContent a (cellOf h (node 0 p))) j + 3
+  pub phases : (n : ℕ) → n < lines h → phaseByte a n ≡ phaseOf (f n)
+
+-- ---- minors brought forward
+
+may-forward : (s p : ℕ) → p ≤ 3 → forward s p ≤ 127 → mayForward s p ≡ true
+unfolding mayForward
+may-forward s p q r = ap₂ (λ (a b : Bool). a && b) (le-leb p 3 q) (le-leb (forward s p) 127 r)
+
+-- a minor s of line n and those after it
+brought : Bool → ℕ → Option (List ℕ) → Option (List ℕ)
+brought b x r = cond b (elim r as (λ z. Option (List ℕ)) [ none ↦ none | some ts ↦ some (x ∷ ts) ]) none
+
+module _ (a : List ℕ) (f : ℕ → ℕ) (small : (x : ℕ) → f x < 128) where
+  forward-counts : (n : ℕ) (ss : List ℕ)
+      → ((k : ℕ) → k < length ss → (getD ss k 0 ≤ f (n + k)) × (f (n + k) ≤ getD ss k 0 + 3))
+      → ((k : ℕ) → k < length ss → phaseByte a (n + k) ≡ phaseOf (f (n + k)))
+      → forwardFrom a n ss ≡ some (countsFrom f n (length ss))
+  unfolding forwardFrom countsFrom brought
+  forward-counts n [] near phases = refl
+  forward-counts n (s ∷ ss) near phases =
+      let here : n + 0 ≡ n = omega arith in
+      let phase : phaseByte a n ≡ phaseOf (f n) = subst (λ (k : ℕ). phaseByte a k ≡ phaseOf (f k)) here (phases 0 (omega arith)) in
+      let reach : forward s (phaseByte a n) ≡ f n =
+      ap (forward s) phase
+      ∙ forward-reaches s (f n) (subst (λ (k : ℕ). s ≤ f k) here (near 0 (omega arith) .0)) (subst (λ (k : ℕ). f k ≤ s + 3) here (near 0 (omega arith) .1)) in
+      let may : mayForward s (phaseByte a n) ≡ true = may-forward s (phaseByte a n) (omega arith) (omega (arith, small n)) in
+      let rest : forwardFrom a (suc n) ss ≡ some (countsFrom f (suc n) (length ss)) =
+      forward-counts (suc n) ss
+      (λ k q. subst (λ (j : ℕ). (getD ss k 0 ≤ f j) × (f j ≤ getD ss k 0 + 3)) (omega arith) (near (suc k) (omega arith)))
+      (λ k q. subst (λ (j : ℕ). phaseByte a j ≡ phaseOf (f j)) (omega arith) (phases (suc k) (omega arith))) in
+      ap₂ (λ (b : Bool) (r : Option (List ℕ)). brought b (forward s (phaseByte a n)) r) may rest ∙ ap (λ (x : ℕ). some (x ∷ countsFrom f (suc n) (length ss))) reach
+
+-- ---- blocks
+
+module _ (keys : List ℕ) (h : ℕ) (f : ℕ → ℕ) (a : List ℕ) (m : Durable keys h f a) where
+  abbrev block : ℕ → List ℕ
+  block p = cellContent a (cellOf h (node 0 p))
+
+  forwarded : (p : ℕ) → p < pages h → forwardFrom a (64 * p) (minors (block p)) ≡ some (countsFrom f (64 * p) 64)
+  unfolding lines
+  forwarded p q =
+      let size = length-minors (block p) in
+      forward-counts a f (m .small) (64 * p) (minors (block p))
+      (λ k r. (m .behind p k q (omega arith), m .near p k q (omega arith))) (λ k r. m .phases (64 * p + k) (omega arith))
+      ∙ ap (λ (n : ℕ). some (countsFrom f (64 * p) n)) size
+
+  block-built : (c : List ℕ) (sum s p : ℕ) → p < pages h
+      → rebuildBlock h a c sum s p ≡ rebuilt (withSlot c s (suc p) 1 (freshNode keys f 0 p)) (sum + (total (countsFrom f (64 * p) 64) - total (minors (block p))))
+  unfolding rebuildBlock freshNode
+  block-built c sum s p q =
+      ap (λ (r : Option (List ℕ)). elim r as (λ z. Rebuilt) [
+        | none ↦ damaged
+        | some ms ↦ rebuilt (withSlot c s (suc p) 1 (counterBlock (major (block p)) ms)) (sum + (total ms - total (minors (block p))))
+      ]) (forwarded p q)
+      ∙ ap (λ (k : ℕ). rebuilt (withSlot c s (suc p) 1 (counterBlock k (countsFrom f (64 * p) 64))) (sum + (total (countsFrom f (64 * p) 64) - total (minors (block p))))) (m .majors p q)
+
+  -- ---- the cache, slot by slot
+
+  -- the slots below s are rebuilt, the others empty
+  pub record Upto (s : ℕ) (c : List ℕ) : Type 0 where
+    pub sized : length c ≡ cacheLength h
+    pub listed : (t : ℕ) → t < s → t < slots h → owner c t ≡ shadowOwner h a t
+    pub fresh : (t i : ℕ) → t < s → t < slots h → shadowOwner h a t ≡ suc i → content c t ≡ freshNode keys f (levelOf t) i
+    pub rest : (t : ℕ) → s ≤ t → t < slots h → owner c t ≡ 0
+    pub full : (t i : ℕ) → t < slots h → owner c t ≡ suc i → dirty c t ≡ 1
+    pub bare : (t : ℕ) → t < slots h → owner c t ≡ 0 → dirty c t ≡ 0
+
+  none-yet : Upto 0 (emptyCache h)
+  none-yet =
+      record {
+        sized = length-empty h;
+        listed = λ t p q. absurd (omega arith);
+        fresh = λ t i p q e. absurd (omega arith);
+        rest = λ t p q. owner-empty h t;
+        full = λ t i p e. absurd (omega (arith, owner-empty h t));
+        bare = λ t p e. dirty-empty h t;
+      }
+
+  -- an empty slot is passed over
+  skipped : (s : ℕ) (c : List ℕ) → shadowOwner h a s ≡ 0 → Upto s c → Upto (suc s) c
+  skipped s c e u =
+      record {
+        sized = u .sized;
+        listed = λ t p q. own t p q (eq-or-not t s);
+        fresh = λ t i p q o. made t i p q o (eq-or-not t s);
+        rest = λ t p q. u .rest t (omega arith) q;
+        full = u .full;
+        bare = u .bare;
+      }
+    where
+      own : (t : ℕ) → t < suc s → t < slots h → (t ≡ s) ⊎ (t ≡ s → ⊥) → owner c t ≡ shadowOwner h a t
+      own t p q (inl z) = u .rest t (omega arith) q ∙ sym (subst (λ (k : ℕ). shadowOwner h a k ≡ 0) (sym z) e)
+      own t p q (inr z) = u .listed t (omega (arith, z)) q
+
+      made : (t i : ℕ) → t < suc s → t < slots h → shadowOwner h a t ≡ suc i → (t ≡ s) ⊎ (t ≡ s → ⊥) → content c t ≡ freshNode keys f (levelOf t) i
+      made t i p q o (inl z) = absurd (omega (arith, o, subst (λ (k : ℕ). shadowOwner h a k ≡ 0) (sym z) e))
+      made t i p q o (inr z) = u .fresh t i (omega (arith, z)) q o
+
+  -- what the shadow lists belongs to its slot
+  listed-node : (s i : ℕ) → s < slots h → shadowOwner h a s ≡ suc i → (i < nodes h (levelOf s)) × (slotOf (levelOf s) i ≡ s)
+  listed-node s i within e = belongs-node h s i (m .owners .belong s i within e)
+
+  -- a listed slot is filled with its node of the fresh tree
+  module _ (high : h ≤ 3) (s i : ℕ) (c b : List ℕ) (within : s < slots h) (e : shadowOwner h a s ≡ suc i) (same : b ≡ freshNode keys f (levelOf s) i) (u : Upto s c) where
+    size : length b ≡ 64
+    size = ap length same ∙ fresh-length keys f (levelOf s) i
+
+    word : suc i < 2 ^ 64
+    word = omega (arith, listed-node s i within e .0, nodes-small {h = h} (levelOf s) refl high)
+
+    abbrev next : List ℕ
+    next = withSlot c s (suc i) 1 b
+
+    own-same : owner next s ≡ suc i
+    own-same = owner-same h c (u .sized) s within (suc i) 1 b size word
+
+    own-other : (t : ℕ) → (t ≡ s → ⊥) → owner next t ≡ owner c t
+    own-other = owner-other h c (u .sized) s within (suc i) 1 b size
+
+    flag-other : (t : ℕ) → (t ≡ s → ⊥) → dirty next t ≡ dirty c t
+    flag-other = dirty-other h c (u .sized) s within (suc i) 1 b size
+
+    own : (t : ℕ) → t < suc s → t < slots h → (t ≡ s) ⊎ (t ≡ s → ⊥) → owner next t ≡ shadowOwner h a t
+    own t p q (inl z) = subst (λ (k : ℕ). owner next k ≡ shadowOwner h a k) (sym z) (own-same ∙ sym e)
+    own t p q (inr z) = own-other t z ∙ u .listed t (omega (arith, z)) q
+
+    made : (t j : ℕ) → t < suc s → t < slots h → shadowOwner h a t ≡ suc j → (t ≡ s) ⊎ (t ≡ s → ⊥) → content next t ≡ freshNode keys f (levelOf t) j
+    made t j p q o (inl z) =
+        let index : i ≡ j = omega (arith, e, subst (λ (k : ℕ). shadowOwner h a k ≡ suc j) z o) in
+        subst (λ (k : ℕ). content next k ≡ freshNode keys f (levelOf k) j) (sym z)
+        (content-same h c (u .sized) s within (suc i) 1 b size ∙ same ∙ ap (freshNode keys f (levelOf s)) index)
+    made t j p q o (inr z) = content-other h c (u .sized) s within (suc i) 1 b size t z ∙ u .fresh t j (omega (arith, z)) q o
+
+    flag : (t j : ℕ) → t < slots h → owner next t ≡ suc j → (t ≡ s) ⊎ (t ≡ s → ⊥) → dirty next t ≡ 1
+    flag t j q o (inl z) = subst (λ (k : ℕ). dirty next k ≡ 1) (sym z) (dirty-same h c (u .sized) s within (suc i) 1 b size)
+    flag t j q o (inr z) = flag-other t z ∙ u .full t j q (sym (own-other t z) ∙ o)
+
+    clean : (t : ℕ) → t < slots h → owner next t ≡ 0 → (t ≡ s) ⊎ (t ≡ s → ⊥) → dirty next t ≡ 0
+    clean t q o (inl z) = absurd (omega (arith, own-same, subst (λ (k : ℕ). owner next k ≡ 0) z o))
+    clean t q o (inr z) = flag-other t z ∙ u .bare t q (sym (own-other t z) ∙ o)
+
+    filled : Upto (suc s) next
+    filled =
+        record {
+          sized = length-with h c (u .sized) s within (suc i) 1 b size ∙ u .sized;
+          listed = λ t p q. own t p q (eq-or-not t s);
+          fresh = λ t j p q o. made t j p q o (eq-or-not t s);
+          rest = λ t p q. own-other t (λ z. omega arith) ∙ u .rest t (omega arith) q;
+          full = λ t j q o. flag t j q o (eq-or-not t s);
+          bare = λ t q o. clean t q o (eq-or-not t s);
+        }
+
+  -- ---- the tree
+
+  -- a node whose slot is rebuilt, or was never listed, is the fresh tree's
+  current-fresh : (s : ℕ) (c : List ℕ) → Upto s c → (l i : ℕ) → l ≤ h → i < nodes h l → slotOf l i < s → current h a c l i ≡ freshNode keys f l i
+  current-fresh s c u l i low node-in before = go (holds c l i) refl
+    where
+      within : slotOf l i < slots h
+      within = slot-within h l i low
+
+      go : (b : Bool) → holds c l i ≡ b → current h a c l i ≡ freshNode keys f l i
+      go true e =
+          current-cached h a c l i e
+          ∙ u .fresh (slotOf l i) i before within (sym (u .listed (slotOf l i) before within) ∙ holds-owner c l i e)
+          ∙ ap (λ (k : ℕ). freshNode keys f k i) (level-slot l i)
+      go false e =
+          current-missing h a c l i e
+          ∙ m .stored l i low node-in (λ o. false≢true (sym e ∙ owner-holds c l i (u .listed (slotOf l i) before within ∙ o)))
+
+  -- a listed node, from the tags of its children
+  node-built : (s i : ℕ) (c : List ℕ) → 4 ≤ s → s < slots h → shadowOwner h a s ≡ suc i → Upto s c
+      → childTags keys (levelOf s - 1) (current h a c (levelOf s - 1)) i ≡ freshNode keys f (levelOf s) i
+  unfolding freshNode slots
+  node-built s i c high within e u =
+      ap (λ (k : ℕ). childTags keys (k - 1) (current h a c (k - 1)) i) level
+      ∙ above ((s - 4) / 2) (omega (arith, level, level-within h s within)) (omega arith) (subst (λ (k : ℕ). i < nodes h k) level (listed-node s i within e .0))
+      ∙ sym (ap (λ (k : ℕ). freshNode keys f k i) level)
+    where
+      level : levelOf s ≡ suc ((s - 4) / 2)
+      level = level-high s high
+
+      above : (k : ℕ) → suc k ≤ h → 4 + 2 * k ≤ s → i < nodes h (suc k) → childTags keys (suc k - 1) (current h a c (suc k - 1)) i ≡ freshNode keys f (suc k) i
+      above k low far inside =
+          let one : suc k - 1 ≡ k = omega arith in
+          ap (λ (j : ℕ). childTags keys j (current h a c j) i) one
+          ∙ tags-agree keys k (current h a c k) (freshNode keys f k) (8 * i) 8
+          (λ j p q. current-fresh s c u k j (omega arith) (omega (arith, nodes-below h k low)) (omega (arith, slot-within k k j (le-refl k))))
+
+  -- ---- all slots
+
+  abbrev listing : ℕ → ℕ → List ℕ
+  listing s n = from (shadowOwner h a) s n
+
+  -- counter slots from s on
+  pub record BlocksFrom (n s : ℕ) (c : List ℕ) (sum : ℕ) : Type 0 where
+    pub cache : List ℕ
+    pub told : ℕ
+    pub same : rebuildBlocks h a s (listing s n) c sum ≡ rebuilt cache told
+    pub upto : Upto (s + n) cache
+
+  blocks-from : h ≤ 3 → (n s : ℕ) (c : List ℕ) (sum : ℕ) → s + n ≤ 4 → Upto s c → BlocksFrom n s c sum
+  unfolding rebuildBlocks rebuildSlot from slots
+  blocks-from high zero s c sum p u = record { cache = c; told = sum; same = refl; upto = subst (λ (k : ℕ). Upto k c) (omega arith) u }
+  blocks-from high (suc n) s c sum p u = go (λ d t v. blocks-from high n (suc s) d t (omega arith) v) (shadowOwner h a s) refl
+    where
+      after : Rebuilt → Rebuilt
+      after r = elim r as (λ z. Rebuilt) [ damaged ↦ damaged | rebuilt d t ↦ rebuildBlocks h a (suc s) (listing (suc s) n) d t ]
+
+      step : {d : List ℕ} {t : ℕ} → rebuildSlot h a c sum s (shadowOwner h a s) ≡ rebuilt d t → BlocksFrom n (suc s) d t → BlocksFrom (suc n) s c sum
+      step e r = record { cache = r .cache; told = r .told; same = ap after e ∙ r .same; upto = subst (λ (k : ℕ). Upto k (r .cache)) (omega arith) (r .upto) }
+
+      go : ((d : List ℕ) (t : ℕ) → Upto (suc s) d → BlocksFrom n (suc s) d t) → (o : ℕ) → shadowOwner h a s ≡ o → BlocksFrom (suc n) s c sum
+      go others zero e = step (ap (rebuildSlot h a c sum s) e) (others c sum (skipped s c e u))
+      go others (suc i) e =
+          let level : levelOf s ≡ 0 = level-low s (omega arith) in
+          let page : i < pages h = omega (arith, subst (λ (k : ℕ). i < nodes h k) level (listed-node s i (omega arith) e .0), nodes-bottom h) in
+          step (ap (rebuildSlot h a c sum s) e ∙ block-built c sum s i page)
+          (others (withSlot c s (suc i) 1 (freshNode keys f 0 i)) _
+          (filled high s i c (freshNode keys f 0 i) (omega arith) e (ap (λ (k : ℕ). freshNode keys f k i) (sym level)) u))
+
+  -- node slots from s on
+  nodes-from : h ≤ 3 → (n s : ℕ) (c : List ℕ) → 4 ≤ s → s + n ≤ slots h → Upto s c → Upto (s + n) (rebuildNodes h keys a s (listing s n) c)
+  unfolding rebuildNodes rebuildNode from
+  nodes-from high zero s c far p u = subst (λ (k : ℕ). Upto k c) (omega arith) u
+  nodes-from high (suc n) s c far p u = go (λ d v. nodes-from high n (suc s) d (omega arith) (omega arith) v) (shadowOwner h a s) refl
+    where
+      Others : Type 0
+      Others = (d : List ℕ) → Upto (suc s) d → Upto (suc s + n) (rebuildNodes h keys a (suc s) (listing (suc s) n) d)
+
+      step : Others → {d : List ℕ} → rebuildNode h keys a c s (shadowOwner h a s) ≡ d → Upto (suc s) d
+          → Upto (s + suc n) (rebuildNodes h keys a (suc s) (listing (suc s) n) (rebuildNode h keys a c s (shadowOwner h a s)))
+      step others {d} e v =
+          subst (λ (x : List ℕ). Upto (s + suc n) (rebuildNodes h keys a (suc s) (listing (suc s) n) x)) (sym e)
+          (subst (λ (k : ℕ). Upto k (rebuildNodes h keys a (suc s) (listing (suc s) n) d)) (omega arith) (others d v))
+
+      go : Others → (o : ℕ) → shadowOwner h a s ≡ o → Upto (s + suc n) (rebuildNodes h keys a (suc s) (listing (suc s) n) (rebuildNode h keys a c s (shadowOwner h a s)))
+      go others zero e = step others (ap (rebuildNode h keys a c s) e) (skipped s c e u)
+      go others (suc i) e = step others (ap (rebuildNode h keys a c s) e) (filled high s i c _ (omega arith) e (node-built s i c far (omega arith) e u) u)
+
+-- ---- the whole recovery, once the pending stores are made
+
+module _ (keys : List ℕ) (x : Module) (f : ℕ → ℕ) (high : depth (x .control) ≤ 3) (m : Durable keys (depth (x .control)) f (x .array)) (top : root (x .control) ≡ freshRoot keys f (depth (x .control))) where
+  abbrev h : ℕ
+  h = depth (x .control)
+
+  abbrev listed-owners : List ℕ
+  listed-owners = shadowOwners h (x .array)
+
+  four : slots h ≡ suc (suc (suc (suc (2 * h))))
+  unfolding slots
+  four = omega arith
+
+  counter-slots : take 4 listed-owners ≡ from (shadowOwner h (x .array)) 0 4
+  unfolding from
+  counter-slots = ap (λ (n : ℕ). take 4 (from (shadowOwner h (x .array)) 0 n)) four
+
+  node-slots : drop 4 listed-owners ≡ from (shadowOwner h (x .array)) 4 (2 * h)
+  unfolding from
+  node-slots = ap (λ (n : ℕ). drop 4 (from (shadowOwner h (x .array)) 0 n)) four
+
+  pub blocks : BlocksFrom keys h f (x .array) m 4 0 (emptyCache h) 0
+  blocks = blocks-from keys h f (x .array) m high 4 0 (emptyCache h) 0 (le-refl 4) (none-yet keys h f (x .array) m)
+
+  pub cacheAfter : List ℕ
+  cacheAfter = rebuildNodes h keys (x .array) 4 (from (shadowOwner h (x .array)) 4 (2 * h)) (blocks .cache)
+
+  pub all-slots : Upto keys h f (x .array) m (slots h) cacheAfter
+  unfolding cacheAfter
+  all-slots =
+      subst (λ (k : ℕ). Upto keys h f (x .array) m k cacheAfter) (omega (arith, four))
+      (nodes-from keys h f (x .array) m high (2 * h) 4 (blocks .cache) (le-refl 4) (omega (arith, four)) (blocks .upto))
+
+  -- every block and node is the fresh tree's
+  pub tree-after : (l i : ℕ) → l ≤ h → i < nodes h l → current h (x .array) cacheAfter l i ≡ freshNode keys f l i
+  tree-after l i p q = current-fresh keys h f (x .array) m (slots h) cacheAfter all-slots l i p q (slot-within h l i p)
+
+  root-right : (k sum : ℕ) → recoverRoot keys k x sum cacheAfter ≡ record { answer = Done k sum; after = record { array = x .array; control = x .control; cache = cacheAfter } }
+  unfolding recoverRoot
+  root-right k sum =
+      ap (λ (b : Bool). cond b (record { answer = Done k sum; after = record { array = x .array; control = x .control; cache = cacheAfter } }) (refuseAfter k x 29 0))
+      (eq-eqb _ _ (ap (λ (b : List ℕ). nodeTag keys b h 0) (tree-after h 0 (le-refl h) (nodes-some h h)) ∙ sym top))
+
+  -- so recovery is done
+  pub recovered : (k : ℕ) → recoverMedia keys k x ≡ record { answer = Done k (blocks .told); after = record { array = x .array; control = x .control; cache = cacheAfter } }
+  unfolding recoverShadow recoverRebuilt cacheAfter
+  recovered k =
+      ap (recoverShadow keys k x listed-owners) (not-bad h (shadowOwner h (x .array)) (m .owners))
+      ∙ ap (recoverRebuilt keys k x listed-owners) (ap (λ (l : List ℕ). rebuildBlocks h (x .array) 0 l (emptyCache h) 0) counter-slots ∙ blocks .same)
+      ∙ ap (λ (l : List ℕ). recoverRoot keys k x (blocks .told) (rebuildNodes h keys (x .array) 4 l (blocks .cache))) node-slots
+      ∙ root-right k (blocks .told)
+
+  -- each line's counter is its count
+  pub counter-after : (n : ℕ) → n < lines h → minor (current h (x .array) cacheAfter 0 (pageOf n)) (placeOf n) ≡ f n
+  counter-after n p =
+      let line : 64 * pageOf n + placeOf n ≡ n = omega arith in
+      ap (λ (b : List ℕ). minor b (placeOf n)) (tree-after 0 (pageOf n) zero-le (omega (arith, page-inside h n p, nodes-bottom h)))
+      ∙ fresh-minor keys f (m .small) (pageOf n) (placeOf n) (omega arith) ∙ ap f line
+
+  -- and the cache is formed
+  pub formed-after : Formed h cacheAfter
+  formed-after =
+      record {
+        owners = record {
+          belong = λ s i p e. m .owners .belong s i p (sym (own s p) ∙ e);
+          top = λ z s p. own s p ∙ m .owners .top (sym (own (topSlot h) (slot-within h h 0 (le-refl h))) ∙ z) s p;
+        };
+        flag = λ s p. flags s p (owner cacheAfter s) refl;
+        clean = all-slots .bare;
+      }
+    where
+      own : (s : ℕ) → s < slots h → owner cacheAfter s ≡ shadowOwner h (x .array) s
+      own s p = all-slots .listed s p p
+
+      flags : (s : ℕ) → s < slots h → (o : ℕ) → owner cacheAfter s ≡ o → dirty cacheAfter s ≤ 1
+      flags s p zero e = omega (arith, all-slots .bare s p e)
+      flags s p (suc i) e = omega (arith, all-slots .full s i p e)

@@ -1,0 +1,188 @@
+-- Laws of the fresh tree: a node is made of the counts of its own lines, holds the tags of its children, and a write renews its path to the
+-- tree of the new counts. Assumes nothing.
+use mathlib.Core.Path.{_≡_, refl, sym, ap, ap₂, _∙_}
+use mathlib.Core.List.{List, _∷_, _++_, append-assoc}
+use Prim.Native.Nat.{ℕ, zero, suc, _+_, _*_, _/_, _%_, _^_, _≤_, _<_}
+use native.Mathlib.Nat.{le-refl, div-one, div-div-eq-div-mul, pow-suc}
+use native.Mathlib.Omega.{arith}
+use lib.Dec.{lit<}
+use lib.ListN.{length, getD, set, take, drop}
+use lib.Seq.{take-append-add, drop-append-add, take-at, drop-at}
+use Rattle.words.specs.Bytes.{fromLe, toLe, part, put}
+use Rattle.words.proofs.Digits.{Below, below-nil, below-cons, length-digits, number-exact}
+use Rattle.memory_map.specs.Map.{pageOf}
+use Rattle.slot_map.specs.Slots.{slotOf}
+use Rattle.counter.specs.Counter.{major, minors, minor, counterBlock, withMinor}
+use Rattle.counter.proofs.Laws.{major-counterBlock, minors-counterBlock}
+use Rattle.tag.specs.Tag.{nodeTag}
+use Rattle.tag.proofs.Tags.{nodeTag-lt}
+use Rattle.cache.specs.Cache.{content}
+use Rattle.calls.specs.Calls.{countsFrom, freshNode}
+use Rattle.calls.specs.Path.{onPath, childTag, renewed, tagsFrom}
+use Rattle.call_laws.proofs.Fresh.{fresh-bytes}
+
+-- ---- paths
+
+-- the node above node i is i / 8
+pub path-up : (p l : ℕ) → onPath p (suc l) ≡ onPath p l / 8
+path-up p l = ap (λ (n : ℕ). p / n) (pow-suc 8 l) ∙ sym (div-div-eq-div-mul p (8 ^ l) 8)
+
+pub path-bottom : (p : ℕ) → onPath p 0 ≡ p
+path-bottom p = div-one p
+
+-- ---- lists of counts
+
+pub length-counts : (f : ℕ → ℕ) (n k : ℕ) → length (countsFrom f n k) ≡ k
+unfolding countsFrom
+length-counts f n zero = refl
+length-counts f n (suc k) = ap suc (length-counts f (suc n) k)
+
+pub counts-agree : (f g : ℕ → ℕ) (n k : ℕ) → ((x : ℕ) → n ≤ x → x < n + k → f x ≡ g x) → countsFrom f n k ≡ countsFrom g n k
+unfolding countsFrom
+counts-agree f g n zero e = refl
+counts-agree f g n (suc k) e =
+    ap₂ (λ (a : ℕ) (b : List ℕ). a ∷ b) (e n (le-refl n) (omega arith)) (counts-agree f g (suc n) k (λ x p q. e x (omega arith) (omega arith)))
+
+-- one count replaced
+pub counts-set : (f g : ℕ → ℕ) (n k j : ℕ) → ((x : ℕ) → (x ≡ n + j → ⊥) → f x ≡ g x) → set (countsFrom f n k) j (g (n + j)) ≡ countsFrom g n k
+unfolding countsFrom
+counts-set f g n zero j e = refl
+counts-set f g n (suc k) zero e =
+    ap₂ (λ (a : ℕ) (b : List ℕ). a ∷ b) (ap g (omega arith)) (counts-agree f g (suc n) k (λ x p q. e x (λ z. omega arith)))
+counts-set f g n (suc k) (suc j) e =
+    let next : n + suc j ≡ suc n + j = omega arith in
+    ap₂ (λ (a : ℕ) (b : List ℕ). a ∷ b) (e n (λ z. omega arith))
+    (ap (λ (x : ℕ). set (countsFrom f (suc n) k) j (g x)) next ∙ counts-set f g (suc n) k j (λ x p. e x (λ z. p (omega arith))))
+
+-- ---- lists of tags
+
+module _ (keys : List ℕ) (l : ℕ) where
+  pub tags-agree : (f g : ℕ → List ℕ) (i n : ℕ) → ((j : ℕ) → i ≤ j → j < i + n → f j ≡ g j) → tagsFrom keys l f i n ≡ tagsFrom keys l g i n
+  unfolding tagsFrom
+  tags-agree f g i zero e = refl
+  tags-agree f g i (suc n) e =
+      ap₂ (λ (a b : List ℕ). toLe 8 (nodeTag keys a l i) ++ b) (e i (le-refl i) (omega arith))
+      (tags-agree f g (suc i) n (λ j p q. e j (omega arith) (omega arith)))
+
+  -- the tag at place k
+  pub tags-at : (f : ℕ → List ℕ) (i n k : ℕ) → k < n → part (tagsFrom keys l f i n) (8 * k) 8 ≡ toLe 8 (nodeTag keys (f (i + k)) l (i + k))
+  unfolding tagsFrom
+  tags-at f i zero k p = absurd (omega arith)
+  tags-at f i (suc n) zero p =
+      take-at (toLe 8 (nodeTag keys (f i) l i)) (tagsFrom keys l f (suc i) n) 8 (length-digits 256 8 (nodeTag keys (f i) l i))
+      ∙ ap (λ (j : ℕ). toLe 8 (nodeTag keys (f j) l j)) (omega arith)
+  tags-at f i (suc n) (suc k) p =
+      let t = toLe 8 (nodeTag keys (f i) l i) in
+      let at : 8 * suc k ≡ length t + 8 * k = omega (arith, length-digits 256 8 (nodeTag keys (f i) l i)) in
+      let next : suc i + k ≡ i + suc k = omega arith in
+      ap (λ (j : ℕ). part (t ++ tagsFrom keys l f (suc i) n) j 8) at
+      ∙ ap (take 8) (drop-append-add t (tagsFrom keys l f (suc i) n) (8 * k))
+      ∙ tags-at f (suc i) n k (omega arith)
+      ∙ ap (λ (j : ℕ). toLe 8 (nodeTag keys (f j) l j)) next
+
+-- a replacement past a first list, and of a first list
+put-past : (xs ys : List ℕ) (at : ℕ) (bs : List ℕ) → put (xs ++ ys) (length xs + at) bs ≡ xs ++ put ys at bs
+put-past xs ys at bs =
+    let seam : length xs + at + length bs ≡ length xs + (at + length bs) = omega arith in
+    ap₂ (λ (a b : List ℕ). a ++ (bs ++ b)) (take-append-add xs ys at)
+    (ap (λ (n : ℕ). drop n (xs ++ ys)) seam ∙ drop-append-add xs ys (at + length bs))
+    ∙ append-assoc xs (take at ys) _
+
+put-front : (xs ys bs : List ℕ) → length bs ≡ length xs → put (xs ++ ys) 0 bs ≡ bs ++ ys
+put-front xs ys bs e = ap (λ (r : List ℕ). bs ++ r) (drop-at xs ys (0 + length bs) (omega arith))
+
+module _ (keys : List ℕ) (l : ℕ) (f g : ℕ → List ℕ) where
+  tag8 : (i : ℕ) (b : List ℕ) → length (toLe 8 (nodeTag keys b l i)) ≡ 8
+  tag8 i b = length-digits 256 8 (nodeTag keys b l i)
+
+  -- one tag replaced
+  pub tags-put : (i n k : ℕ) → k < n → ((j : ℕ) → (j ≡ i + k → ⊥) → f j ≡ g j)
+      → put (tagsFrom keys l f i n) (8 * k) (toLe 8 (nodeTag keys (g (i + k)) l (i + k))) ≡ tagsFrom keys l g i n
+  unfolding tagsFrom
+  tags-put i zero k p e = absurd (omega arith)
+  tags-put i (suc n) zero p e =
+      let here : i + 0 ≡ i = omega arith in
+      put-front (toLe 8 (nodeTag keys (f i) l i)) (tagsFrom keys l f (suc i) n) (toLe 8 (nodeTag keys (g (i + 0)) l (i + 0)))
+      (tag8 (i + 0) (g (i + 0)) ∙ sym (tag8 i (f i)))
+      ∙ ap₂ (λ (j : ℕ) (r : List ℕ). toLe 8 (nodeTag keys (g j) l j) ++ r) here (tags-agree keys l f g (suc i) n (λ j q r. e j (λ z. omega arith)))
+  tags-put i (suc n) (suc k) p e =
+      let t = toLe 8 (nodeTag keys (f i) l i) in
+      let at : 8 * suc k ≡ length t + 8 * k = omega (arith, tag8 i (f i)) in
+      let next : i + suc k ≡ suc i + k = omega arith in
+      let new : ℕ → List ℕ = λ j. toLe 8 (nodeTag keys (g j) l j) in
+      ap (λ (a : ℕ). put (t ++ tagsFrom keys l f (suc i) n) a (new (i + suc k))) at
+      ∙ put-past t (tagsFrom keys l f (suc i) n) (8 * k) (new (i + suc k))
+      ∙ ap₂ (λ (b r : List ℕ). toLe 8 (nodeTag keys b l i) ++ r) (e i (λ z. omega arith))
+      (ap (λ (j : ℕ). put (tagsFrom keys l f (suc i) n) (8 * k) (new j)) next ∙ tags-put (suc i) n k (omega arith) (λ j q. e j (λ z. q (omega arith))))
+
+-- ---- nodes
+
+-- counts that agree on the lines below a node give the same node
+pub fresh-agree : (keys : List ℕ) (f g : ℕ → ℕ) (l i : ℕ) → ((x : ℕ) → onPath (pageOf x) l ≡ i → f x ≡ g x) → freshNode keys f l i ≡ freshNode keys g l i
+unfolding freshNode
+fresh-agree keys f g zero i e = ap (counterBlock 0) (counts-agree f g (64 * i) 64 (λ x p q. e x (path-bottom (pageOf x) ∙ omega arith)))
+fresh-agree keys f g (suc l) i e =
+    tags-agree keys l (freshNode keys f l) (freshNode keys g l) (8 * i) 8
+    (λ j p q. fresh-agree keys f g l j (λ x r. e x (path-up (pageOf x) l ∙ ap (λ (k : ℕ). k / 8) r ∙ omega arith)))
+
+-- a node holds the tags of its children
+pub child-fresh : (keys : List ℕ) (f : ℕ → ℕ) (l i : ℕ) → Below 256 keys → childTag (freshNode keys f (suc l) (i / 8)) i ≡ nodeTag keys (freshNode keys f l i) l i
+unfolding freshNode
+child-fresh keys f l i plain =
+    let here : 8 * (i / 8) + i % 8 ≡ i = omega arith in
+    ap fromLe (tags-at keys l (freshNode keys f l) (8 * (i / 8)) 8 (i % 8) (omega arith))
+    ∙ ap (λ (j : ℕ). fromLe (toLe 8 (nodeTag keys (freshNode keys f l j) l j))) here
+    ∙ number-exact 256 8 _ (lit< tt) (nodeTag-lt keys (freshNode keys f l i) l i plain (fresh-bytes keys f l i))
+
+-- ---- counter blocks
+
+counts-below : (f : ℕ → ℕ) (n k : ℕ) → ((x : ℕ) → f x < 128) → Below 128 (countsFrom f n k)
+unfolding countsFrom
+counts-below f n zero e = below-nil (lit< tt)
+counts-below f n (suc k) e = below-cons (e n) (counts-below f (suc n) k e)
+
+counts-at : (f : ℕ → ℕ) (n k j : ℕ) → j < k → getD (countsFrom f n k) j 0 ≡ f (n + j)
+unfolding countsFrom
+counts-at f n zero j p = absurd (omega arith)
+counts-at f n (suc k) zero p = ap f (omega arith)
+counts-at f n (suc k) (suc j) p = let next : suc n + j ≡ n + suc j = omega arith in counts-at f (suc n) k j (omega arith) ∙ ap f next
+
+module _ (keys : List ℕ) (f : ℕ → ℕ) (small : (x : ℕ) → f x < 128) (p : ℕ) where
+  fresh-minors : minors (freshNode keys f 0 p) ≡ countsFrom f (64 * p) 64
+  unfolding freshNode
+  fresh-minors = minors-counterBlock 0 (countsFrom f (64 * p) 64) (length-counts f (64 * p) 64) (counts-below f (64 * p) 64 small)
+
+  pub fresh-major : major (freshNode keys f 0 p) ≡ 0
+  unfolding freshNode
+  fresh-major = major-counterBlock 0 (countsFrom f (64 * p) 64) (lit< tt)
+
+  -- a block has the counts of its lines as minors
+  pub fresh-minor : (j : ℕ) → j < 64 → minor (freshNode keys f 0 p) j ≡ f (64 * p + j)
+  fresh-minor j q = ap (λ (ms : List ℕ). getD ms j 0) fresh-minors ∙ counts-at f (64 * p) 64 j q
+
+  -- and one with another minor is the block of other counts
+  pub fresh-with : (g : ℕ → ℕ) (j : ℕ) → ((x : ℕ) → (x ≡ 64 * p + j → ⊥) → f x ≡ g x) → withMinor (freshNode keys f 0 p) j (g (64 * p + j)) ≡ freshNode keys g 0 p
+  unfolding withMinor freshNode
+  fresh-with g j e = ap₂ (λ (m : ℕ) (ms : List ℕ). counterBlock m (set ms j (g (64 * p + j)))) fresh-major fresh-minors ∙ ap (counterBlock 0) (counts-set f g (64 * p) 64 j e)
+
+-- ---- writing
+
+-- where the cache has the path of page p in the tree of f, and g differs from f on that page alone, the path is renewed to the tree of g
+module _ (keys : List ℕ) (h p : ℕ) (c : List ℕ) (f g : ℕ → ℕ)
+    (path : (l : ℕ) → l ≤ h → content c (slotOf l (onPath p l)) ≡ freshNode keys f l (onPath p l))
+    (same : (x : ℕ) → (pageOf x ≡ p → ⊥) → f x ≡ g x) where
+  -- one level further up
+  above : (l i u : ℕ) → 8 * u + i % 8 ≡ i → ((j : ℕ) → (j ≡ i → ⊥) → (x : ℕ) → onPath (pageOf x) l ≡ j → f x ≡ g x)
+      → put (freshNode keys f (suc l) u) (8 * (i % 8)) (toLe 8 (nodeTag keys (freshNode keys g l i) l i)) ≡ freshNode keys g (suc l) u
+  unfolding freshNode
+  above l i u split apart =
+      ap (λ (k : ℕ). put (freshNode keys f (suc l) u) (8 * (i % 8)) (toLe 8 (nodeTag keys (freshNode keys g l k) l k))) (sym split)
+      ∙ tags-put keys l (freshNode keys f l) (freshNode keys g l) (8 * u) 8 (i % 8) (omega arith)
+      (λ j d. fresh-agree keys f g l j (apart j (λ z. d (z ∙ sym split))))
+
+  pub renewed-fresh : (l : ℕ) → l ≤ h → renewed keys c p (freshNode keys g 0 p) l ≡ freshNode keys g l (onPath p l)
+  unfolding renewed
+  renewed-fresh zero q = ap (freshNode keys g 0) (sym (path-bottom p))
+  renewed-fresh (suc l) q =
+      ap₂ (λ (s t : List ℕ). put s (8 * (onPath p l % 8)) (toLe 8 (nodeTag keys t l (onPath p l)))) (path (suc l) q) (renewed-fresh l (omega arith))
+      ∙ above l (onPath p l) (onPath p (suc l)) (omega (arith, path-up p l)) (λ j d x r. same x (λ z. d (sym r ∙ ap (λ (y : ℕ). onPath y l) z)))
