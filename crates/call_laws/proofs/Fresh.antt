@@ -31,7 +31,7 @@ fresh-bytes keys f (suc l) i = tags-bytes keys l (freshNode keys f l) (8 * i) 8
 
 -- ---- its cells
 
-node-cells-length : (keys : List ℕ) (l i n : ℕ) → length (nodeCells keys l i n) ≡ 72 * n
+pub node-cells-length : (keys : List ℕ) (l i n : ℕ) → length (nodeCells keys l i n) ≡ 72 * n
 unfolding nodeCells
 node-cells-length keys l i zero = refl
 node-cells-length keys l i (suc n) =
@@ -44,7 +44,7 @@ node-cells-bytes keys l i zero = below-nil (lit< tt)
 node-cells-bytes keys l i (suc n) =
     below-append _ (nodeCells keys l (suc i) n) (below-append _ (replicate 8 0) (fresh-bytes keys (λ x. 0) l i) (zeros-bytes 8)) (node-cells-bytes keys l (suc i) n)
 
-level-cells-length : (keys : List ℕ) (h n : ℕ) (rest : List ℕ) → length (levelCells keys h n rest) + 72 * lines h ≡ 72 * levelStart h n + length rest
+pub level-cells-length : (keys : List ℕ) (h n : ℕ) (rest : List ℕ) → length (levelCells keys h n rest) + 72 * lines h ≡ 72 * levelStart h n + length rest
 unfolding levelCells levelStart
 level-cells-length keys h zero rest = omega arith
 level-cells-length keys h (suc l) rest =

@@ -1,5 +1,6 @@
 pub mod Allowance
 pub mod Bound
+pub mod Formatted
 pub mod Fresh
 pub mod Judged
 pub mod Kept

@@ -36,7 +36,7 @@ pub record Durable (keys : List ℕ) (h : ℕ) (f : ℕ → ℕ) (a : List ℕ) 
   pub stored : (l i : ℕ) → l ≤ h → i < nodes h l → (shadowOwner h a (slotOf l i) ≡ suc i → ⊥) → cellContent a (cellOf h (node l i)) ≡ freshNode keys f l i
   pub majors : (p : ℕ) → p < pages h → major (cellContent a (cellOf h (node 0 p))) ≡ 0
   pub behind : (p j : ℕ) → p < pages h → j < 64 → minor (cellContent a (cellOf h (node 0 p))) j ≤ f (64 * p + j)
-  pub near : (p j : ℕ) → p < pages h → j < 64 → f (64 * p + j) ≤ minor (cellContent a (cellOf h (node 0 p))) j + 3
+  pub near : (p j : ℕ) → p < pages h → j < 64 → f (64 * p + j) ≤ minor (cellContent a (cellOf h (node 0 p))) j + phaseOf (f (64 * p + j))
   pub phases : (n : ℕ) → n < lines h → phaseByte a n ≡ phaseOf (f n)
 
 -- ---- minors brought forward
@@ -80,7 +80,7 @@ module _ (keys : List ℕ) (h : ℕ) (f : ℕ → ℕ) (a : List ℕ) (m : Durab
   forwarded p q =
       let size = length-minors (block p) in
       forward-counts a f (m .small) (64 * p) (minors (block p))
-      (λ k r. (m .behind p k q (omega arith), m .near p k q (omega arith))) (λ k r. m .phases (64 * p + k) (omega arith))
+      (λ k r. (m .behind p k q (omega arith), omega (arith, m .near p k q (omega arith)))) (λ k r. m .phases (64 * p + k) (omega arith))
       ∙ ap (λ (n : ℕ). some (countsFrom f (64 * p) n)) size
 
   block-built : (c : List ℕ) (sum s p : ℕ) → p < pages h
