@@ -6,5 +6,6 @@ pub mod Judged
 pub mod Kept
 pub mod Loads
 pub mod Rebuilt
+pub mod Stores
 pub mod Recovered
 pub mod Tree
