@@ -4,8 +4,10 @@ pub mod Formatted
 pub mod Fresh
 pub mod Judged
 pub mod Kept
+pub mod Live
 pub mod Loads
 pub mod Rebuilt
 pub mod Stores
 pub mod Recovered
 pub mod Tree
+pub mod Walked

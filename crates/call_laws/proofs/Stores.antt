@@ -133,7 +133,7 @@ module _ (keys : List ℕ) (h : ℕ) (f : ℕ → ℕ) (a : List ℕ) (whole : l
     abbrev pub with-node : List ℕ
     with-node = put a (72 * cellOf h (node l i)) node-bytes
 
-    node-same : cellContent with-node (cellOf h (node l i)) ≡ freshNode keys f l i
+    pub node-same : cellContent with-node (cellOf h (node l i)) ≡ freshNode keys f l i
     unfolding cellContent
     node-same =
         same-part h a whole (node l i) (in-node h l i low inside) node-bytes node-size 64 (omega arith)
@@ -163,6 +163,15 @@ module _ (keys : List ℕ) (h : ℕ) (f : ℕ → ℕ) (a : List ℕ) (whole : l
     pub fresh-kept : (k j : ℕ) → k ≤ h → j < nodes h k → cellContent a (cellOf h (node k j)) ≡ freshNode keys f k j
         → cellContent with-node (cellOf h (node k j)) ≡ freshNode keys f k j
     fresh-kept k j p q e = node-cases (λ b. b ≡ freshNode keys f k j) k j p q refl e
+
+    -- nodes of another level stay
+    pub other-level : (k j : ℕ) → k ≤ h → j < nodes h k → (k ≡ l → ⊥) → cellContent with-node (cellOf h (node k j)) ≡ cellContent a (cellOf h (node k j))
+    unfolding cellContent first
+    other-level k j p q z =
+        other-part h a whole (node l i) (in-node h l i low inside) node-bytes node-size (node k j) (in-node h k j p q) (λ e. z (ap first e)) 64 (omega arith)
+
+    pub with-length : length with-node ≡ length a
+    with-length = length-after h a whole (node l i) (in-node h l i low inside) node-bytes node-size
 
     page-in : (p : ℕ) → p < pages h → p < nodes h 0
     page-in p q = omega (arith, nodes-bottom h)
@@ -206,6 +215,9 @@ module _ (keys : List ℕ) (h : ℕ) (f : ℕ → ℕ) (a : List ℕ) (whole : l
 
     abbrev pub with-shadow : List ℕ
     with-shadow = put a (72 * cellOf h (shadow (slotOf l i))) shadow-bytes
+
+    pub listed-length : length with-shadow ≡ length a
+    listed-length = length-after h a whole (shadow (slotOf l i)) (in-shadow h (slotOf l i) within) shadow-bytes shadow-size
 
     pub listed-same : shadowOwner h with-shadow (slotOf l i) ≡ suc i
     unfolding shadowOwner

@@ -25,17 +25,22 @@ use Rattle.journal.proofs.Kept.{Formed, within-batch, made-kept}
 
 -- ---- cells stored in an array
 
-abbrev put-cell : List ℕ → Cell → List ℕ
+abbrev pub put-cell : List ℕ → Cell → List ℕ
 put-cell a c = put a (72 * c .number) (c .bytes)
 
-unfoldable put-cells : List ℕ → List Cell → List ℕ
+unfoldable pub put-cells : List ℕ → List Cell → List ℕ
 put-cells a [] = a
 put-cells a (c ∷ cs) = put-cells (put-cell a c) cs
 
-cells-stores : (m : Media) (cs : List Cell) → storeAll m (map cell cs) ≡ media (put-cells (m .array) cs) (m .control)
+pub cells-stores : (m : Media) (cs : List Cell) → storeAll m (map cell cs) ≡ media (put-cells (m .array) cs) (m .control)
 unfolding storeAll store put-cells
 cells-stores m [] = refl
 cells-stores m (c ∷ cs) = cells-stores (store m (cell c)) cs
+
+pub put-cells-append : (a : List ℕ) (xs ys : List Cell) → put-cells a (xs ++ ys) ≡ put-cells (put-cells a xs) ys
+unfolding put-cells
+put-cells-append a [] ys = refl
+put-cells-append a (x ∷ xs) ys = put-cells-append (put-cell a x) xs ys
 
 -- a cell of an array of n bytes
 record Inside (n : ℕ) (c : Cell) : Type 0 where
@@ -99,13 +104,13 @@ module _ (n : ℕ) where
 -- ---- finishing
 
 -- the record with the new root, and with count 0
-abbrev rooted : List ℕ → ℕ → List ℕ
+abbrev pub rooted : List ℕ → ℕ → List ℕ
 rooted k r = put k 7 (toLe 8 r)
 
-abbrev cleared : List ℕ → List ℕ
+abbrev pub cleared : List ℕ → List ℕ
 cleared k = put k 15 (0 ∷ [])
 
-finish-stores : (m : Media) (cs : List Cell) (r : ℕ) → storeAll m (finish cs r) ≡ media (put-cells (m .array) cs) (cleared (rooted (m .control) r))
+pub finish-stores : (m : Media) (cs : List Cell) (r : ℕ) → storeAll m (finish cs r) ≡ media (put-cells (m .array) cs) (cleared (rooted (m .control) r))
 unfolding finish storeAll store
 finish-stores m cs r =
     store-append m (map cell cs) (root r ∷ clear ∷ [])

@@ -55,6 +55,10 @@ pub nodes-some : (h l : ℕ) → 0 < nodes h l
 unfolding nodes
 nodes-some h l = pow-pos 8 (h - l) (lit< tt)
 
+pub nodes-top : (h : ℕ) → nodes h h ≡ 1
+unfolding nodes
+nodes-top h = let none : h - h ≡ 0 = omega arith in ap (λ (k : ℕ). 8 ^ k) none
+
 pub level-shadow : (h l i : ℕ) → l ≤ h → i < nodes h l → levelStart h l + i < shadowStart h
 unfolding shadowStart
 level-shadow h l i p q = omega (arith, level-mono h (suc l) (suc h) (suc-le-suc p), level-next h l)
