@@ -9,5 +9,6 @@ pub mod Loads
 pub mod Rebuilt
 pub mod Stores
 pub mod Recovered
+pub mod Renewed
 pub mod Tree
 pub mod Walked

@@ -10,10 +10,10 @@ use native.Mathlib.Omega.{arith}
 use borrow.Author.Tests.{eq-eqb, ne-eqb}
 use lib.Dec.{eqb}
 use lib.ListN.{length, replicate}
-use Rattle.words.specs.Bytes.{toLe, put}
+use Rattle.words.specs.Bytes.{toLe, part, put}
 use Rattle.words.proofs.Digits.{Below}
 use Rattle.words.proofs.Order.{eq-or-not}
-use Rattle.memory_map.specs.Map.{nodes, slots, arrayLength, cellOf}
+use Rattle.memory_map.specs.Map.{lines, nodes, slots, arrayLength, cellOf}
 use Rattle.memory_map.specs.Map.Item.{node, shadow}
 use Rattle.memory_map.proofs.Laws.{nodes-small, nodes-top}
 use Rattle.slot_map.specs.Slots.{slotOf, levelOf}
@@ -28,7 +28,7 @@ use Rattle.calls.specs.Path.{evicted, nodeCell, shadowCell, Loaded, loaded, dif
 use Rattle.call_laws.proofs.Fresh.{fresh-length}
 use Rattle.call_laws.proofs.Loads.{Fit, Took, TookIf, load-took}
 use Rattle.call_laws.proofs.Recovered.{Durable}
-use Rattle.call_laws.proofs.Stores.{with-node, node-same, other-level, with-length, shadow-kept, fresh-kept, node-durable, with-shadow, listed-length, listed-same, listed-other, nodes-kept, shadow-durable}
+use Rattle.call_laws.proofs.Stores.{with-node, node-same, other-level, node-lines, with-length, shadow-kept, fresh-kept, node-durable, with-shadow, listed-length, shadow-lines, listed-same, listed-other, nodes-kept, shadow-durable}
 
 module _ (keys : List ℕ) (h : ℕ) (low : 1 ≤ h) (high : h ≤ 3) (f : ℕ → ℕ) where
   pub record Live (a c : List ℕ) : Type 0 where
@@ -66,6 +66,7 @@ module _ (keys : List ℕ) (h : ℕ) (low : 1 ≤ h) (high : h ≤ 3) (f : ℕ �
       pub kept : (k j : ℕ) → k ≤ h → j < nodes h k → cellContent a (cellOf h (node k j)) ≡ freshNode keys f k j → cellContent b (cellOf h (node k j)) ≡ freshNode keys f k j
       pub old : (j : ℕ) → j < nodes h l → owner c (slotOf l i) ≡ suc j → cellContent b (cellOf h (node l j)) ≡ freshNode keys f l j
       pub lower : (k j : ℕ) → k < l → j < nodes h k → cellContent b (cellOf h (node k j)) ≡ cellContent a (cellOf h (node k j))
+      pub rows : (n : ℕ) → n < lines h → part b (72 * n) 72 ≡ part a (72 * n) 72
 
     -- what a filled slot has
     of-level : (j : ℕ) → owner c (slotOf l i) ≡ suc j → (j < nodes h l) × (content c (slotOf l i) ≡ freshNode keys f l j)
@@ -84,6 +85,7 @@ module _ (keys : List ℕ) (h : ℕ) (low : 1 ≤ h) (high : h ≤ 3) (f : ℕ �
           kept = λ k j p q r. r;
           old = λ j p o. subst (λ (k : ℕ). cellContent a (cellOf h (node k j)) ≡ freshNode keys f k j) (level-slot l i) (v .clean (slotOf l i) j within o e);
           lower = λ k j p q. refl;
+          rows = λ n p. refl;
         }
 
     freed-dirty : (j : ℕ) (q : j < nodes h l) → owner c (slotOf l i) ≡ suc j → Freed (with-node keys h f a (v .whole) (v .durable) l j lh q)
@@ -97,6 +99,7 @@ module _ (keys : List ℕ) (h : ℕ) (low : 1 ≤ h) (high : h ≤ 3) (f : ℕ �
               subst (λ (n : ℕ). cellContent (with-node keys h f a (v .whole) (v .durable) l j lh q) (cellOf h (node l n)) ≡ freshNode keys f l n) same
               (node-same keys h f a (v .whole) (v .durable) l j lh q);
           lower = λ k n p r. other-level keys h f a (v .whole) (v .durable) l j lh q k n (omega arith) r (λ z. omega arith);
+          rows = node-lines keys h f a (v .whole) (v .durable) l j lh q;
         }
 
     abbrev pub former : List Cell
@@ -157,6 +160,10 @@ module _ (keys : List ℕ) (h : ℕ) (low : 1 ≤ h) (high : h ≤ 3) (f : ℕ �
 
       pub kept-next : (k j : ℕ) → k ≤ h → j < nodes h k → cellContent a (cellOf h (node k j)) ≡ freshNode keys f k j → cellContent array-next (cellOf h (node k j)) ≡ freshNode keys f k j
       kept-next k j p q e = nodes-kept keys h f (put-cells a former) (freed .whole) (freed .durable) l i lh inside word former-fresh topped k j p q ∙ freed .kept k j p q e
+
+      -- data cells stay as they were
+      pub rows-next : (n : ℕ) → n < lines h → part array-next (72 * n) 72 ≡ part a (72 * n) 72
+      rows-next n p = shadow-lines keys h f (put-cells a former) (freed .whole) (freed .durable) l i lh inside word former-fresh topped n p ∙ freed .rows n p
 
       -- nodes of lower levels stay as they were
       pub lower-next : (k j : ℕ) → k < l → j < nodes h k → cellContent array-next (cellOf h (node k j)) ≡ cellContent a (cellOf h (node k j))

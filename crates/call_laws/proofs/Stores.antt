@@ -120,6 +120,13 @@ module _ (h : ℕ) (a : List ℕ) (whole : length a ≡ arrayLength h) (x : Item
       subst (λ (k : ℕ). getD (after h a whole x inside bs size) (72 * k + 64) 0 ≡ getD a (72 * k + 64) 0) (line-cell h n)
       (other-byte h a whole x inside bs size (line n) (in-line h n p) (apart (line n) x (λ q. e (sym q))) 64 (lit< tt))
 
+  -- and of the lines' cells
+  pub line-kept : (n : ℕ) → n < lines h → part (after h a whole x inside bs size) (72 * n) 72 ≡ part a (72 * n) 72
+  unfolding kind
+  line-kept n p =
+      subst (λ (k : ℕ). part (after h a whole x inside bs size) (72 * k) 72 ≡ part a (72 * k) 72) (line-cell h n)
+      (other-part h a whole x inside bs size (line n) (in-line h n p) (apart (line n) x (λ q. e (sym q))) 72 (le-refl 72))
+
 -- ---- a node of the fresh tree stored
 
 module _ (keys : List ℕ) (h : ℕ) (f : ℕ → ℕ) (a : List ℕ) (whole : length a ≡ arrayLength h) (m : Durable keys h f a) where
@@ -170,6 +177,10 @@ module _ (keys : List ℕ) (h : ℕ) (f : ℕ → ℕ) (a : List ℕ) (whole : l
     other-level k j p q z =
         other-part h a whole (node l i) (in-node h l i low inside) node-bytes node-size (node k j) (in-node h k j p q) (λ e. z (ap first e)) 64 (omega arith)
 
+    pub node-lines : (n : ℕ) → n < lines h → part with-node (72 * n) 72 ≡ part a (72 * n) 72
+    unfolding kind
+    node-lines = line-kept h a whole (node l i) (in-node h l i low inside) node-bytes node-size (λ (q : _≡_ {A = ℕ} 1 0). omega arith)
+
     pub with-length : length with-node ≡ length a
     with-length = length-after h a whole (node l i) (in-node h l i low inside) node-bytes node-size
 
@@ -218,6 +229,10 @@ module _ (keys : List ℕ) (h : ℕ) (f : ℕ → ℕ) (a : List ℕ) (whole : l
 
     pub listed-length : length with-shadow ≡ length a
     listed-length = length-after h a whole (shadow (slotOf l i)) (in-shadow h (slotOf l i) within) shadow-bytes shadow-size
+
+    pub shadow-lines : (n : ℕ) → n < lines h → part with-shadow (72 * n) 72 ≡ part a (72 * n) 72
+    unfolding kind
+    shadow-lines = line-kept h a whole (shadow (slotOf l i)) (in-shadow h (slotOf l i) within) shadow-bytes shadow-size (λ (q : _≡_ {A = ℕ} 2 0). omega arith)
 
     pub listed-same : shadowOwner h with-shadow (slotOf l i) ≡ suc i
     unfolding shadowOwner

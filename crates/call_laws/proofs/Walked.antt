@@ -10,9 +10,10 @@ use native.Mathlib.Omega.{arith}
 use borrow.Author.Tests.{eq-eqb}
 use lib.Dec.{eqb}
 use lib.ListN.{length}
+use Rattle.words.specs.Bytes.{part}
 use Rattle.words.proofs.Digits.{Below}
 use Rattle.words.proofs.Order.{eq-or-not}
-use Rattle.memory_map.specs.Map.{pages, nodes, slots, arrayLength, cellOf}
+use Rattle.memory_map.specs.Map.{pages, lines, nodes, slots, arrayLength, cellOf}
 use Rattle.memory_map.specs.Map.Item.{node}
 use Rattle.slot_map.specs.Slots.{slotOf, levelOf}
 use Rattle.slot_map.proofs.Laws.{slot-within, level-slot}
@@ -25,7 +26,7 @@ use Rattle.calls.specs.Calls.{freshNode, freshRoot}
 use Rattle.calls.specs.Path.{onPath, childTag, evicted, shadowCell, Loaded, loaded, differs, loadNode, loadLevels, loadPath}
 use Rattle.call_laws.proofs.Loads.{Fit, Took, TookIf, load-took, path-within}
 use Rattle.call_laws.proofs.Tree.{path-up, child-fresh}
-use Rattle.call_laws.proofs.Live.{Live, not-listed, own-same, own-other, array-next, next, live-next, lower-next}
+use Rattle.call_laws.proofs.Live.{Live, not-listed, own-same, own-other, array-next, next, live-next, lower-next, rows-next}
 
 module _ (keys : List ℕ) (h : ℕ) (low : 1 ≤ h) (high : h ≤ 3) (f : ℕ → ℕ) (base : List ℕ) (whole : length base ≡ arrayLength h) (plain : Below 256 base) where
   -- ---- one node
@@ -38,6 +39,7 @@ module _ (keys : List ℕ) (h : ℕ) (low : 1 ≤ h) (high : h ≤ 3) (f : ℕ �
     pub held : owner cache (slotOf l i) ≡ suc i
     pub others : (k j : ℕ) → (k ≡ l → ⊥) → owner cache (slotOf k j) ≡ owner c (slotOf k j)
     pub lower : (k j : ℕ) → k < l → j < nodes h k → cellContent (put-cells a cells) (cellOf h (node k j)) ≡ cellContent a (cellOf h (node k j))
+    pub rows : (n : ℕ) → n < lines h → part (put-cells a cells) (72 * n) 72 ≡ part a (72 * n) 72
 
   module _ (a c : List ℕ) (v : Live keys h low high f a c) (l i : ℕ) (lh : l ≤ h) (inside : i < nodes h l) (top : owner c (topSlot h) ≡ 0 → l ≡ h)
       (there : cellContent base (cellOf h (node l i)) ≡ cellContent a (cellOf h (node l i))) (t : ℕ) (tag : t ≡ nodeTag keys (freshNode keys f l i) l i) where
@@ -61,6 +63,7 @@ module _ (keys : List ℕ) (h : ℕ) (low : 1 ≤ h) (high : h ≤ 3) (f : ℕ �
           held = holds-owner c l i e;
           others = λ k j z. refl;
           lower = λ k j p q. refl;
+          rows = λ n p. refl;
         }
 
     module _ (missing : holds c l i ≡ false) where
@@ -96,6 +99,7 @@ module _ (keys : List ℕ) (h : ℕ) (low : 1 ≤ h) (high : h ≤ 3) (f : ℕ �
             others = λ k j z. own-other keys h low high f a c v l i lh inside missing top (slotOf k j)
                 (λ e. z (sym (level-slot k j) ∙ ap levelOf e ∙ level-slot l i));
             lower = λ k j p q. ap (λ (n : List ℕ). cellContent n (cellOf h (node k j))) stored ∙ lower-next keys h low high f a c v l i lh inside missing top k j p q;
+            rows = λ n p. ap (λ (a : List ℕ). part a (72 * n) 72) stored ∙ rows-next keys h low high f a c v l i lh inside missing top n p;
           }
 
     load-step : Step a c l i t
@@ -118,6 +122,7 @@ module _ (keys : List ℕ) (h : ℕ) (low : 1 ≤ h) (high : h ≤ 3) (f : ℕ �
       pub same : loadLevels h keys base p n t c x ≡ loaded cache cells
       pub live : Live keys h low high f (put-cells base cells) cache
       pub path : (k : ℕ) → k < n → owner cache (slotOf k (onPath p k)) ≡ suc (onPath p k)
+      pub rows : (n : ℕ) → n < lines h → part (put-cells base cells) (72 * n) 72 ≡ part (put-cells base x) (72 * n) 72
       pub above : (k : ℕ) → n ≤ k → owner cache (slotOf k (onPath p k)) ≡ owner c (slotOf k (onPath p k))
 
     -- the array lower down as the batch so far leaves it
@@ -186,6 +191,7 @@ module _ (keys : List ℕ) (h : ℕ) (low : 1 ≤ h) (high : h ≤ 3) (f : ℕ �
               | loaded d y ↦ loadLevels h keys base p l (childTag (content d (slotOf l (onPath p l))) (onPath p (l - 1))) d (x ++ y)
             ]) (step .same) ∙ r .same;
             live = r .live;
+            rows = λ n s. r .rows n s ∙ ap (λ (a : List ℕ). part a (72 * n) 72) (put-cells-append base x (step .cells)) ∙ step .rows n s;
             path = λ k s. on k s (eq-or-not k l);
             above = λ k s. r .above k (omega arith) ∙ step .others k (onPath p k) (λ z. omega arith);
           }
@@ -198,7 +204,7 @@ module _ (keys : List ℕ) (h : ℕ) (low : 1 ≤ h) (high : h ≤ 3) (f : ℕ �
         → (owner c (topSlot h) ≡ 0 → n ≡ suc h) → Tagged n t → Levels n t c x
     unfolding loadLevels
     levels zero t c x q v same top tag =
-        record { cache = c; cells = x; same = refl; live = v; path = λ k s. absurd (omega arith); above = λ k s. refl }
+        record { cache = c; cells = x; same = refl; live = v; rows = λ n s. refl; path = λ k s. absurd (omega arith); above = λ k s. refl }
     levels (suc l) t c x q v same top tag =
         joined l t c x q v same top tag
         (levels l (next-tag l t c x q v same top tag) _ _ (omega arith) (live-step l t c x q v same top tag) (lower-step l t c x q v same top tag)
@@ -211,6 +217,7 @@ module _ (keys : List ℕ) (h : ℕ) (low : 1 ≤ h) (high : h ≤ 3) (f : ℕ �
       pub cells : List Cell
       pub same : loadPath h keys base (freshRoot keys f h) p c ≡ loaded cache cells
       pub live : Live keys h low high f (put-cells base cells) cache
+      pub rows : (n : ℕ) → n < lines h → part (put-cells base cells) (72 * n) 72 ≡ part base (72 * n) 72
       pub path : (k : ℕ) → k ≤ h → owner cache (slotOf k (onPath p k)) ≡ suc (onPath p k)
 
     pub walked : (c : List ℕ) → Live keys h low high f base c → Walked c
@@ -218,4 +225,4 @@ module _ (keys : List ℕ) (h : ℕ) (low : 1 ≤ h) (high : h ≤ 3) (f : ℕ �
     walked c v =
         let r = levels (suc h) (freshRoot keys f h) c [] (le-refl (suc h)) v (λ k j s u. refl) (λ e. refl)
         (λ l e. ap (λ (k : ℕ). nodeTag keys (freshNode keys f h k) h k) (sym top-node) ∙ ap (λ (n : ℕ). nodeTag keys (freshNode keys f n (onPath p n)) n (onPath p n)) (suc-inj e)) in
-        record { cache = r .cache; cells = r .cells; same = r .same; live = r .live; path = λ k s. r .path k (omega arith) }
+        record { cache = r .cache; cells = r .cells; same = r .same; live = r .live; rows = r .rows; path = λ k s. r .path k (omega arith) }
