@@ -12,3 +12,4 @@ pub mod Recovered
 pub mod Renewed
 pub mod Tree
 pub mod Walked
+pub mod Written

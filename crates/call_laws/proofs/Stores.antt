@@ -83,12 +83,12 @@ kind (line n) = 0
 kind (node l i) = 1
 kind (shadow s) = 2
 
-first : Item → ℕ
+unfoldable pub first : Item → ℕ
 first (line n) = n
 first (node l i) = l
 first (shadow s) = s
 
-second : Item → ℕ
+unfoldable pub second : Item → ℕ
 second (line n) = 0
 second (node l i) = i
 second (shadow s) = 0
@@ -96,19 +96,19 @@ second (shadow s) = 0
 apart : (x y : Item) → (kind x ≡ kind y → ⊥) → x ≡ y → ⊥
 apart x y e q = e (ap kind q)
 
-in-node : (h l i : ℕ) → l ≤ h → i < nodes h l → InMap h (node l i)
+pub in-node : (h l i : ℕ) → l ≤ h → i < nodes h l → InMap h (node l i)
 unfolding InMap
 in-node h l i p q = (p, q)
 
-in-shadow : (h s : ℕ) → s < slots h → InMap h (shadow s)
+pub in-shadow : (h s : ℕ) → s < slots h → InMap h (shadow s)
 unfolding InMap
 in-shadow h s p = p
 
-in-line : (h n : ℕ) → n < lines h → InMap h (line n)
+pub in-line : (h n : ℕ) → n < lines h → InMap h (line n)
 unfolding InMap
 in-line h n p = p
 
-line-cell : (h n : ℕ) → cellOf h (line n) ≡ n
+pub line-cell : (h n : ℕ) → cellOf h (line n) ≡ n
 unfolding cellOf
 line-cell h n = refl
 
@@ -126,6 +126,26 @@ module _ (h : ℕ) (a : List ℕ) (whole : length a ≡ arrayLength h) (x : Item
   line-kept n p =
       subst (λ (k : ℕ). part (after h a whole x inside bs size) (72 * k) 72 ≡ part a (72 * k) 72) (line-cell h n)
       (other-part h a whole x inside bs size (line n) (in-line h n p) (apart (line n) x (λ q. e (sym q))) 72 (le-refl 72))
+
+-- what stays by its kind
+module _ (h : ℕ) (a : List ℕ) (whole : length a ≡ arrayLength h) (x : Item) (inside : InMap h x) (bs : List ℕ) (size : length bs ≡ 72) where
+  pub nodes-apart : (kind x ≡ 1 → ⊥) → (k j : ℕ) → k ≤ h → j < nodes h k
+      → cellContent (after h a whole x inside bs size) (cellOf h (node k j)) ≡ cellContent a (cellOf h (node k j))
+  unfolding cellContent kind
+  nodes-apart e k j p q = other-part h a whole x inside bs size (node k j) (in-node h k j p q) (apart (node k j) x (λ z. e (sym z))) 64 (omega arith)
+
+  pub shadows-apart : (kind x ≡ 2 → ⊥) → (s : ℕ) → s < slots h → shadowOwner h (after h a whole x inside bs size) s ≡ shadowOwner h a s
+  unfolding shadowOwner kind
+  shadows-apart e s p = ap fromLe (other-part h a whole x inside bs size (shadow s) (in-shadow h s p) (apart (shadow s) x (λ z. e (sym z))) 8 (omega arith))
+
+  pub line-apart : (y : ℕ) → y < lines h → (line y ≡ x → ⊥) → part (after h a whole x inside bs size) (72 * y) 72 ≡ part a (72 * y) 72
+  line-apart y p e =
+      subst (λ (k : ℕ). part (after h a whole x inside bs size) (72 * k) 72 ≡ part a (72 * k) 72) (line-cell h y)
+      (other-part h a whole x inside bs size (line y) (in-line h y p) e 72 (le-refl 72))
+
+  pub node-apart : (k j : ℕ) → k ≤ h → j < nodes h k → (node k j ≡ x → ⊥) → cellContent (after h a whole x inside bs size) (cellOf h (node k j)) ≡ cellContent a (cellOf h (node k j))
+  unfolding cellContent
+  node-apart k j p q e = other-part h a whole x inside bs size (node k j) (in-node h k j p q) e 64 (omega arith)
 
 -- ---- a node of the fresh tree stored
 
