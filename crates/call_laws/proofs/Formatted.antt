@@ -1,7 +1,7 @@
 -- A formatted array is what recovery asks for: it keeps the fresh tree of no writes, and lists nothing. Assumes nothing.
 use mathlib.Core.Path.{_≡_, refl, sym, ap, ap₂, _∙_, subst}
 use mathlib.Core.Logic.{_⊎_, inl, inr}
-use mathlib.Core.List.{List, [], _∷_, _++_, append-assoc, append-nil}
+use mathlib.Core.List.{List, [], _++_, append-assoc, append-nil}
 use Prim.Native.Nat.{ℕ, zero, suc, _+_, _*_, _≤_, _<_, zero-le}
 use native.Mathlib.Omega.{arith}
 use Rattle.words.proofs.Order.{eq-or-not}
@@ -11,8 +11,8 @@ use lib.Seq.{take-append-le, drop-append-le, drop-append-add, take-all}
 use Rattle.words.specs.Bytes.{fromLe, part}
 use Rattle.words.proofs.Digits.{below-take, below-drop}
 use Rattle.words.proofs.Zeros.{below-zeros, number-zeros}
-use Rattle.memory_map.specs.Map.{pages, lines, nodes, levelStart, slots, shadowStart, shadowCells, cells, cellOf}
-use Rattle.memory_map.specs.Map.Item.{node, shadow}
+use Rattle.memory_map.specs.Map.{pages, lines, nodes, levelStart, shadowStart, shadowCells, cellOf}
+use Rattle.memory_map.specs.Map.Item.{node}
 use Rattle.memory_map.proofs.Laws.{nodes-bottom}
 use Rattle.counter.specs.Counter.{major, minor}
 use Rattle.cache.specs.Cache.{cellContent, shadowOwner}

@@ -53,12 +53,12 @@ pub kept-same : (m : Module) → Bytes m → Kept m m
 kept-same m b = record { array = refl; control = refl; cache = refl; bytes = b }
 
 -- sound cells are whole, and lie in the map
-wholes : (h : ℕ) → h ≤ 3 → {xs : List Cell} → Each (Sound h) xs → Each Whole xs
+pub wholes : (h : ℕ) → h ≤ 3 → {xs : List Cell} → Each (Sound h) xs → Each Whole xs
 wholes h p none = none
 wholes h p (more {x = x} s ss) =
     more {x = x} (record { word = omega (arith, s .inside, cells-small h p); size = s .size; bytes = s .bytes }) (wholes h p ss)
 
-in-map : (h : ℕ) {xs : List Cell} → Each (Sound h) xs → inMap (cells h) xs ≡ true
+pub in-map : (h : ℕ) {xs : List Cell} → Each (Sound h) xs → inMap (cells h) xs ≡ true
 unfolding inMap
 in-map h none = refl
 in-map h (more {x = x} s ss) = rw (lt-ltb (x .number) (cells h) (s .inside)) (in-map h ss)

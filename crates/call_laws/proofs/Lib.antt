@@ -7,6 +7,7 @@ pub mod Kept
 pub mod Live
 pub mod Loads
 pub mod Rebuilt
+pub mod State
 pub mod Stores
 pub mod Recovered
 pub mod Renewed

@@ -3,7 +3,7 @@
 use mathlib.Core.Path.{_≡_, refl, sym, ap, ap₂, _∙_, subst}
 use mathlib.Core.Logic.{_⊎_, inl, inr}
 use mathlib.Core.Bool.{Bool, true, false, _&&_, cond, false≢true}
-use mathlib.Core.List.{List, [], _∷_, _++_}
+use mathlib.Core.List.{List, [], _∷_}
 use mathlib.Core.Option.{Option, none, some}
 use Prim.Native.Nat.{ℕ, zero, suc, _+_, _-_, _*_, _/_, _^_, _≤_, _<_, zero-le}
 use native.Mathlib.Nat.{le-refl}
@@ -23,7 +23,7 @@ use Rattle.cache.specs.Cache.{owner, dirty, content, shadowOwner, shadowOwners,
 use Rattle.cache.proofs.Laws.{Owned, Formed, not-bad, length-with, owner-same, dirty-same, content-same, owner-other, dirty-other, content-other, length-empty, owner-empty, dirty-empty, holds-owner, owner-holds, current-cached, current-missing}
 use Rattle.answer.specs.declared.Answer.the-variants.{Done}
 use Rattle.control.specs.Control.{depth, root}
-use Rattle.calls.specs.Calls.{phaseByte, forwardFrom, countsFrom, freshNode, total, Rebuilt, rebuilt, damaged, rebuildBlock, rebuildSlot, rebuildBlocks, rebuildNode, rebuildNodes, Module, Called, freshRoot, recoverRoot, recoverRebuilt, recoverShadow, recoverMedia, refuseAfter}
+use Rattle.calls.specs.Calls.{phaseByte, forwardFrom, countsFrom, freshNode, total, Rebuilt, rebuilt, damaged, rebuildBlock, rebuildSlot, rebuildBlocks, rebuildNode, rebuildNodes, Module, freshRoot, recoverRoot, recoverRebuilt, recoverShadow, recoverMedia, refuseAfter}
 use Rattle.calls.specs.Path.{childTags}
 use Rattle.call_laws.proofs.Tree.{tags-agree, fresh-minor}
 use Rattle.call_laws.proofs.Judged.{page-inside}

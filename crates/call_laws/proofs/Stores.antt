@@ -4,12 +4,12 @@ use mathlib.Core.Path.{_≡_, refl, sym, ap, ap₂, _∙_, subst}
 use mathlib.Core.Logic.{_⊎_, inl, inr}
 use mathlib.Core.Bool.{true}
 use mathlib.Core.List.{List, _++_}
-use Prim.Native.Nat.{ℕ, zero, suc, _+_, _*_, _^_, _≤_, _<_, zero-le}
+use Prim.Native.Nat.{ℕ, suc, _+_, _*_, _^_, _≤_, _<_, zero-le}
 use native.Mathlib.Nat.{le-refl}
 use native.Mathlib.Omega.{arith}
 use lib.Dec.{lit<}
-use lib.ListN.{length, getD, replicate, take, length-append, length-replicate}
-use lib.Seq.{take-append-le, take-all, take-at}
+use lib.ListN.{length, getD, replicate, take, length-append}
+use lib.Seq.{take-at}
 use Rattle.words.specs.Bytes.{fromLe, toLe, part, put}
 use Rattle.words.proofs.Digits.{length-digits, number-exact}
 use Rattle.words.proofs.Order.{lt-eq-gt, eq-or-not}
@@ -21,11 +21,8 @@ use Rattle.memory_map.proofs.Laws.{cell-within, cell-injective, nodes-bottom}
 use Rattle.slot_map.specs.Slots.{slotOf, levelOf, belongs}
 use Rattle.slot_map.proofs.Laws.{slot-within, level-slot, node-belongs}
 use Rattle.counter.specs.Counter.{major, minor, phaseOf}
-use Rattle.control.specs.Control.{Cell}
 use Rattle.cache.specs.Cache.{cellContent, shadowOwner, topSlot}
-use Rattle.cache.proofs.Laws.{Owned}
 use Rattle.calls.specs.Calls.{phaseByte, freshNode}
-use Rattle.calls.specs.Path.{nodeCell, shadowCell}
 use Rattle.call_laws.proofs.Fresh.{fresh-length}
 use Rattle.call_laws.proofs.Tree.{fresh-major, fresh-minor}
 use Rattle.call_laws.proofs.Recovered.{Durable}

@@ -4,7 +4,7 @@ use mathlib.Core.Path.{_≡_, refl, sym, ap, ap₂, _∙_, subst}
 use mathlib.Core.Logic.{_⊎_, inl, inr}
 use mathlib.Core.Bool.{Bool, true, false, cond}
 use mathlib.Core.List.{List, [], _∷_, _++_}
-use Prim.Native.Nat.{ℕ, zero, suc, _+_, _-_, _*_, _/_, _≤_, _<_}
+use Prim.Native.Nat.{ℕ, zero, suc, _-_, _*_, _≤_, _<_}
 use native.Mathlib.Nat.{le-refl, div-eq-of-lt, suc-inj}
 use native.Mathlib.Omega.{arith}
 use borrow.Author.Tests.{eq-eqb}
@@ -13,7 +13,7 @@ use lib.ListN.{length}
 use Rattle.words.specs.Bytes.{part}
 use Rattle.words.proofs.Digits.{Below}
 use Rattle.words.proofs.Order.{eq-or-not}
-use Rattle.memory_map.specs.Map.{pages, lines, nodes, slots, arrayLength, cellOf}
+use Rattle.memory_map.specs.Map.{pages, lines, nodes, arrayLength, cellOf}
 use Rattle.memory_map.specs.Map.Item.{node}
 use Rattle.slot_map.specs.Slots.{slotOf, levelOf}
 use Rattle.slot_map.proofs.Laws.{slot-within, level-slot}
@@ -24,9 +24,9 @@ use Rattle.cache.proofs.Laws.{holds-owner}
 use Rattle.journal.proofs.Again.{put-cells, put-cells-append}
 use Rattle.calls.specs.Calls.{freshNode, freshRoot}
 use Rattle.calls.specs.Path.{onPath, childTag, evicted, shadowCell, Loaded, loaded, differs, loadNode, loadLevels, loadPath}
-use Rattle.call_laws.proofs.Loads.{Fit, Took, TookIf, load-took, path-within}
+use Rattle.call_laws.proofs.Loads.{Fit, TookIf, load-took, path-within}
 use Rattle.call_laws.proofs.Tree.{path-up, child-fresh}
-use Rattle.call_laws.proofs.Live.{Live, not-listed, own-same, own-other, array-next, next, live-next, lower-next, rows-next}
+use Rattle.call_laws.proofs.Live.{Live, not-listed, own-same, own-other, array-next, live-next, lower-next, rows-next}
 
 module _ (keys : List ℕ) (h : ℕ) (low : 1 ≤ h) (high : h ≤ 3) (f : ℕ → ℕ) (base : List ℕ) (whole : length base ≡ arrayLength h) (plain : Below 256 base) where
   -- ---- one node

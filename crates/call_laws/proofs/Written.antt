@@ -4,19 +4,19 @@ use mathlib.Core.Path.{_≡_, refl, sym, ap, ap₂, _∙_, subst}
 use mathlib.Core.Logic.{_⊎_, inl, inr}
 use mathlib.Core.Bool.{Bool, true, false, cond, false≢true}
 use mathlib.Core.List.{List, [], _∷_, _++_}
-use Prim.Native.Nat.{ℕ, zero, suc, _+_, _*_, _/_, _%_, _≤_, _<_, zero-le}
+use Prim.Native.Nat.{ℕ, zero, suc, _+_, _*_, _≤_, _<_, zero-le}
 use native.Mathlib.Nat.{le-refl, div-eq-of-lt}
 use native.Mathlib.Omega.{arith}
-use borrow.Author.Tests.{eq-eqb, ne-eqb, eqb-true, eqb-false}
+use borrow.Author.Tests.{eq-eqb, ne-eqb}
 use lib.Dec.{eqb, lit<}
-use lib.ListN.{length, getD, replicate, take, length-append, length-replicate}
+use lib.ListN.{length, getD, replicate, length-append}
 use lib.Seq.{take-at, take-all, getD-at}
 use Rattle.words.specs.Bytes.{toLe, part, put}
-use Rattle.words.proofs.Digits.{Below, length-digits}
+use Rattle.words.proofs.Digits.{length-digits}
 use Rattle.words.proofs.Order.{eq-or-not}
 use Rattle.words.proofs.Puts.{getD-part}
 use Rattle.memory_map.specs.Map.{pageOf, placeOf, pages, lines, nodes, slots, arrayLength, cellOf}
-use Rattle.memory_map.specs.Map.Item.{line, node, shadow}
+use Rattle.memory_map.specs.Map.Item.{line, node}
 use Rattle.memory_map.proofs.Laws.{nodes-bottom}
 use Rattle.slot_map.specs.Slots.{slotOf, levelOf}
 use Rattle.slot_map.proofs.Laws.{slot-within, level-slot, level-within}
@@ -27,9 +27,9 @@ use Rattle.pad.proofs.Nonce.{length-pad}
 use Rattle.tag.specs.Tag.{nodeTag, dataTag}
 use Rattle.control.specs.Control.{Cell}
 use Rattle.cache.specs.Cache.{owner, dirty, content, shadowOwner, cellContent, topSlot}
-use Rattle.cache.proofs.Laws.{Owned, Formed, slot-holds}
+use Rattle.cache.proofs.Laws.{slot-holds}
 use Rattle.journal.proofs.Again.{put-cells}
-use Rattle.calls.specs.Calls.{phaseByte, sideBytes, pageBlock, lineMinor, newMinor, newBlock, stopLoss, dataCell, writtenCache, freshNode, freshRoot}
+use Rattle.calls.specs.Calls.{phaseByte, sideBytes, pageBlock, lineMinor, newBlock, freshNode, freshRoot}
 use Rattle.calls.specs.Path.{onPath, nodeCell, renewPath, renewedRoot}
 use Rattle.calls.specs.History.{changed}
 use Rattle.call_laws.proofs.Judged.{page-inside}

@@ -116,6 +116,12 @@ finish-stores m cs r =
     store-append m (map cell cs) (root r ∷ clear ∷ [])
     ∙ ap (λ (x : Media). storeAll x (root r ∷ clear ∷ [])) (cells-stores m cs)
 
+-- the cells and the root alone
+pub root-stores : (m : Media) (cs : List Cell) (r : ℕ) → storeAll m (take (length cs + 1) (finish cs r)) ≡ media (put-cells (m .array) cs) (rooted (m .control) r)
+unfolding storeAll store
+root-stores m cs r =
+    ap (storeAll m) (finish-root cs r) ∙ store-append m (map cell cs) (root r ∷ []) ∙ ap (λ (x : Media). store x (root r)) (cells-stores m cs)
+
 module _ (k : List ℕ) (size : length k ≡ controlLength) where
   pub rooted-pending : (r : ℕ) → pendingStores (rooted k r) ≡ pendingStores k
   unfolding pendingStores
