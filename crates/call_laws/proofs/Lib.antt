@@ -1,16 +1,7 @@
 pub mod Allowance
 pub mod Bound
-pub mod Formatted
 pub mod Fresh
 pub mod Judged
 pub mod Kept
-pub mod Live
 pub mod Loads
 pub mod Rebuilt
-pub mod State
-pub mod Stores
-pub mod Recovered
-pub mod Renewed
-pub mod Tree
-pub mod Walked
-pub mod Written

@@ -24,9 +24,9 @@ use Rattle.cache.proofs.Laws.{holds-owner}
 use Rattle.journal.proofs.Again.{put-cells, put-cells-append}
 use Rattle.calls.specs.Calls.{freshNode, freshRoot}
 use Rattle.calls.specs.Path.{onPath, childTag, evicted, shadowCell, Loaded, loaded, differs, loadNode, loadLevels, loadPath}
 use Rattle.call_laws.proofs.Loads.{Fit, TookIf, load-took, path-within}
-use Rattle.call_laws.proofs.Tree.{path-up, child-fresh}
-use Rattle.call_laws.proofs.Live.{Live, not-listed, own-same, own-other, array-next, live-next, lower-next, rows-next}
+use Rattle.history_laws.proofs.Tree.{path-up, child-fresh}
+use Rattle.history_laws.proofs.Live.{Live, not-listed, own-same, own-other, array-next, live-next, lower-next, rows-next}
 
 module _ (keys : List ℕ) (h : ℕ) (low : 1 ≤ h) (high : h ≤ 3) (f : ℕ → ℕ) (base : List ℕ) (whole : length base ≡ arrayLength h) (plain : Below 256 base) where
   -- ---- one node

@@ -17,9 +17,9 @@ use Rattle.memory_map.proofs.Laws.{nodes-bottom}
 use Rattle.counter.specs.Counter.{major, minor}
 use Rattle.cache.specs.Cache.{cellContent, shadowOwner}
 use Rattle.calls.specs.Calls.{phaseByte, freshNode, nodeCells, levelCells, freshArray}
 use Rattle.call_laws.proofs.Fresh.{fresh-length, node-cells-length, level-cells-length}
-use Rattle.call_laws.proofs.Tree.{fresh-major, fresh-minor}
-use Rattle.call_laws.proofs.Recovered.{Durable}
+use Rattle.history_laws.proofs.Tree.{fresh-major, fresh-minor}
+use Rattle.history_laws.proofs.Recovered.{Durable}
 
 -- ---- parts of lists put together
 

@@ -23,9 +23,9 @@ use Rattle.slot_map.proofs.Laws.{slot-within, level-slot, node-belongs}
 use Rattle.counter.specs.Counter.{major, minor, phaseOf}
 use Rattle.cache.specs.Cache.{cellContent, shadowOwner, topSlot}
 use Rattle.calls.specs.Calls.{phaseByte, freshNode}
 use Rattle.call_laws.proofs.Fresh.{fresh-length}
-use Rattle.call_laws.proofs.Tree.{fresh-major, fresh-minor}
-use Rattle.call_laws.proofs.Recovered.{Durable}
+use Rattle.history_laws.proofs.Tree.{fresh-major, fresh-minor}
+use Rattle.history_laws.proofs.Recovered.{Durable}
 
 -- ---- one cell stored
 

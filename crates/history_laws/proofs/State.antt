@@ -28,11 +28,11 @@ use Rattle.journal.proofs.Kept.{Formed, Within, within-batch, made-kept, stores
 use Rattle.journal.proofs.Again.{put-cells, cells-stores, rooted, cleared, finish-stores, root-stores, batch-dropped, batch-again}
 use Rattle.calls.specs.Calls.{Module, mediaOf, withMedia, freshRoot, total, countsFrom}
 use Rattle.calls.specs.History.{Book}
 use Rattle.call_laws.proofs.Loads.{Sound}
 use Rattle.call_laws.proofs.Kept.{wholes, in-map, array-cells}
-use Rattle.call_laws.proofs.Recovered.{Durable}
-use Rattle.call_laws.proofs.Live.{Live}
-use Rattle.call_laws.proofs.Written.{dataBytes}
+use Rattle.history_laws.proofs.Recovered.{Durable}
+use Rattle.history_laws.proofs.Live.{Live}
+use Rattle.history_laws.proofs.Written.{dataBytes}
 
 -- a line's cell: of no use where it has no text, else its text's
 unfoldable pub RowOk : List ℕ → ℕ → ℕ → Option (List ℕ) → List ℕ → Type 0

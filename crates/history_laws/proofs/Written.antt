@@ -32,14 +32,14 @@ use Rattle.journal.proofs.Again.{put-cells}
 use Rattle.calls.specs.Calls.{phaseByte, sideBytes, pageBlock, lineMinor, newBlock, freshNode, freshRoot}
 use Rattle.calls.specs.Path.{onPath, nodeCell, renewPath, renewedRoot}
 use Rattle.calls.specs.History.{changed}
 use Rattle.call_laws.proofs.Judged.{page-inside}
 use Rattle.call_laws.proofs.Fresh.{fresh-length}
 use Rattle.call_laws.proofs.Loads.{Fit}
-use Rattle.call_laws.proofs.Tree.{path-bottom, fresh-agree, fresh-major, fresh-minor, fresh-with, renewed-fresh}
-use Rattle.call_laws.proofs.Recovered.{Durable}
-use Rattle.call_laws.proofs.Stores.{kind, first, second, in-node, in-line, line-cell, length-after, same-part, nodes-apart, shadows-apart, line-apart, line-kept, node-apart}
-use Rattle.call_laws.proofs.Live.{Live}
-use Rattle.call_laws.proofs.Renewed.{After, after-path}
+use Rattle.history_laws.proofs.Tree.{path-bottom, fresh-agree, fresh-major, fresh-minor, fresh-with, renewed-fresh}
+use Rattle.history_laws.proofs.Recovered.{Durable}
+use Rattle.history_laws.proofs.Stores.{kind, first, second, in-node, in-line, line-cell, length-after, same-part, nodes-apart, shadows-apart, line-apart, line-kept, node-apart}
+use Rattle.history_laws.proofs.Live.{Live}
+use Rattle.history_laws.proofs.Renewed.{After, after-path}
 
 -- the bytes of a line's cell, with a text under major 0 and a minor
 unfoldable pub dataBytes : List ℕ → ℕ → List ℕ → ℕ → List ℕ

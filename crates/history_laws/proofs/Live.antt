@@ -22,10 +22,10 @@ use Rattle.cache.proofs.Laws.{owner-same, content-same, owner-other, dirty-othe
 use Rattle.journal.proofs.Again.{put-cells}
 use Rattle.calls.specs.Calls.{freshNode}
 use Rattle.calls.specs.Path.{evicted, nodeCell}
 use Rattle.call_laws.proofs.Fresh.{fresh-length}
 use Rattle.call_laws.proofs.Loads.{Fit}
-use Rattle.call_laws.proofs.Recovered.{Durable}
-use Rattle.call_laws.proofs.Stores.{with-node, node-same, other-level, node-lines, with-length, shadow-kept, fresh-kept, node-durable, with-shadow, listed-length, shadow-lines, listed-same, listed-other, nodes-kept, shadow-durable}
+use Rattle.history_laws.proofs.Recovered.{Durable}
+use Rattle.history_laws.proofs.Stores.{with-node, node-same, other-level, node-lines, with-length, shadow-kept, fresh-kept, node-durable, with-shadow, listed-length, shadow-lines, listed-same, listed-other, nodes-kept, shadow-durable}
 
 module _ (keys : List ℕ) (h : ℕ) (low : 1 ≤ h) (high : h ≤ 3) (f : ℕ → ℕ) where
   pub record Live (a c : List ℕ) : Type 0 where

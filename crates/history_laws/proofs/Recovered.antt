@@ -25,9 +25,9 @@ use Rattle.answer.specs.declared.Answer.the-variants.{Done}
 use Rattle.control.specs.Control.{depth, root}
 use Rattle.calls.specs.Calls.{phaseByte, forwardFrom, countsFrom, freshNode, total, Rebuilt, rebuilt, damaged, rebuildBlock, rebuildSlot, rebuildBlocks, rebuildNode, rebuildNodes, Module, freshRoot, recoverRoot, recoverRebuilt, recoverShadow, recoverMedia, refuseAfter}
 use Rattle.calls.specs.Path.{childTags}
-use Rattle.call_laws.proofs.Tree.{tags-agree, fresh-minor}
+use Rattle.history_laws.proofs.Tree.{tags-agree, fresh-minor}
 use Rattle.call_laws.proofs.Judged.{page-inside}
 use Rattle.call_laws.proofs.Fresh.{fresh-length}
 
 -- what the media keep of counts f
 pub record Durable (keys : List ℕ) (h : ℕ) (f : ℕ → ℕ) (a : List ℕ) : Type 0 where

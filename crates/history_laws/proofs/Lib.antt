@@ -1,0 +1,9 @@
+pub mod Formatted
+pub mod Live
+pub mod Recovered
+pub mod Renewed
+pub mod State
+pub mod Stores
+pub mod Tree
+pub mod Walked
+pub mod Written
