@@ -1,5 +1,6 @@
 pub mod Formatted
 pub mod Live
+pub mod Reading
 pub mod Recovered
 pub mod Renewed
 pub mod State

@@ -1,0 +1,132 @@
+-- A call on a line of a module that is ready: its path loads, its counter is the book's count, and a read gives the book's text.
+-- Assumes nothing.
+use mathlib.Core.Path.{_≡_, sym, ap, ap₂, _∙_, subst}
+use mathlib.Core.Bool.{Bool, true, false, cond}
+use mathlib.Core.List.{List}
+use mathlib.Core.Option.{Option, none, some}
+use Prim.Native.Nat.{ℕ, _+_, _*_, _≤_, _<_, zero-le}
+use native.Mathlib.Omega.{arith}
+use borrow.Author.Tests.{eq-eqb, ne-eqb}
+use lib.Dec.{lit≤}
+use lib.ListN.{length, replicate, take, drop}
+use lib.Seq.{take-at, drop-at, take-all, take-take}
+use Rattle.words.specs.Bytes.{fromLe, part}
+use Rattle.words.proofs.Digits.{Below, length-digits}
+use Rattle.words.proofs.Parts.{part-part}
+use Rattle.memory_map.specs.Map.{pageOf, placeOf, pages, lines}
+use Rattle.slot_map.specs.Slots.{slotOf}
+use Rattle.slot_map.proofs.Laws.{slot-within, level-slot}
+use Rattle.counter.specs.Counter.{major, minor}
+use Rattle.pad.specs.Pad.{pad, xorBytes}
+use Rattle.pad.proofs.Xor.{xor-back}
+use Rattle.pad.proofs.Nonce.{length-pad}
+use Rattle.tag.specs.Tag.{dataTag}
+use Rattle.answer.specs.declared.Answer.the-variants.{Done, Blank}
+use Rattle.control.specs.Control.{root, count}
+use Rattle.cache.specs.Cache.{content, cellContent}
+use Rattle.journal.specs.Journal.{Store, batchStores}
+use Rattle.calls.specs.Calls.{Module, mediaOf, Reading, sideBytes, sideOk, lineText, pageBlock, lineMinor, answered, readLoaded, readPath, readJudged, read, refusedRead, refuse, pathOf, accessRefusal, freshNode, freshRoot}
+use Rattle.calls.specs.Path.{onPath, loaded, loadPath}
+use Rattle.calls.specs.History.{Book}
+use Rattle.call_laws.proofs.Judged.{page-inside}
+use Rattle.call_laws.proofs.Loads.{Loads, LoadsIf, path-loads}
+use Rattle.history_laws.proofs.Tree.{path-bottom, fresh-major, fresh-minor}
+use Rattle.history_laws.proofs.Walked.{Walked, walked}
+use Rattle.history_laws.proofs.Written.{dataBytes, length-cipher}
+use Rattle.history_laws.proofs.State.{RowOk, Settled, Holds, Ready, finished-idle}
+
+module _ (keys : List ℕ) (keyed : Below 256 keys) (h : ℕ) (low : 1 ≤ h) (high : h ≤ 3) (b : Book) (m : Module) (held : Holds keys h low high b m) (ready : Ready keys h low high b m)
+    (n : ℕ) (inside : n < lines h) where
+  pub was : Settled keys h low high b (mediaOf m)
+  was = subst (Settled keys h low high b) (finished-idle keys h low high (mediaOf m) (ready .idle)) (held .settled)
+
+  pub page : pageOf n < pages h
+  page = page-inside h n inside
+
+  pub walk : Walked keys h low high (b .count) (m .array) (held .formed .array-length) (held .formed .array-bytes) keyed (pageOf n) page (m .cache)
+  walk = walked keys h low high (b .count) (m .array) (held .formed .array-length) (held .formed .array-bytes) keyed (pageOf n) page (m .cache) (ready .live)
+
+  pub path-is : pathOf keys n m ≡ loaded (walk .cache) (walk .cells)
+  path-is = ap₂ (λ (d r : ℕ). loadPath d keys (m .array) r (pageOf n) (m .cache)) (held .deep) (was .top) ∙ walk .same
+
+  pub loads : Loads h low high keys (m .array) (held .formed .array-length) (held .formed .array-bytes) (pageOf n) page (walk .cache) (walk .cells)
+  unfolding LoadsIf
+  loads =
+      subst (LoadsIf h low high keys (m .array) (held .formed .array-length) (held .formed .array-bytes) (pageOf n) page) (walk .same)
+      (path-loads h low high keys (m .array) (held .formed .array-length) (held .formed .array-bytes) (pageOf n) page (freshRoot keys (b .count) h) (m .cache) (ready .live .fit))
+
+  block-is : pageBlock (walk .cache) n ≡ freshNode keys (b .count) 0 (pageOf n)
+  block-is =
+      subst (λ (q : ℕ). content (walk .cache) (slotOf 0 q) ≡ freshNode keys (b .count) 0 q) (path-bottom (pageOf n))
+      (walk .live .fresh (slotOf 0 (onPath (pageOf n) 0)) (onPath (pageOf n) 0) (slot-within h 0 (onPath (pageOf n) 0) zero-le) (walk .path 0 zero-le)
+      ∙ ap (λ (k : ℕ). freshNode keys (b .count) k (onPath (pageOf n) 0)) (level-slot 0 (onPath (pageOf n) 0)))
+
+  pub minor-is : lineMinor (walk .cache) n ≡ b .count n
+  minor-is =
+      let place : 64 * pageOf n + placeOf n ≡ n = omega arith in
+      ap (λ (l : List ℕ). minor l (placeOf n)) block-is ∙ fresh-minor keys (b .count) (was .durable .small) (pageOf n) (placeOf n) (omega arith) ∙ ap (b .count) place
+
+  pub major-is : major (pageBlock (walk .cache) n) ≡ 0
+  major-is = ap major block-is ∙ fresh-major keys (b .count) (was .durable .small) (pageOf n)
+
+  abbrev pub stores : List Store
+  stores = batchStores (walk .cells) (root (m .control))
+
+  -- ---- the text
+
+  module _ (t : List ℕ) (full : length t ≡ 64) (row : part (m .array) (72 * n) 72 ≡ dataBytes keys n t (b .count n)) where
+    abbrev cipher : List ℕ
+    cipher = xorBytes t (pad keys n 0 (b .count n))
+
+    cipher-is : cellContent (m .array) n ≡ cipher
+    unfolding cellContent dataBytes
+    cipher-is =
+        sym (take-take 64 72 (drop (72 * n) (m .array)) (lit≤ tt)) ∙ ap (take 64) row
+        ∙ take-at cipher (sideBytes keys cipher n 0 (b .count n)) 64 (length-cipher keys n t full (b .count n))
+
+    side-is : part (m .array) (72 * n + 64) 8 ≡ sideBytes keys cipher n 0 (b .count n)
+    unfolding dataBytes
+    side-is =
+        sym (part-part (m .array) (72 * n) 72 64 8 (lit≤ tt)) ∙ ap (λ (l : List ℕ). part l 64 8) row
+        ∙ ap (take 8) (drop-at cipher (sideBytes keys cipher n 0 (b .count n)) 64 (length-cipher keys n t full (b .count n)))
+        ∙ take-all 8 (sideBytes keys cipher n 0 (b .count n)) (omega (arith, length-digits 256 7 (dataTag keys cipher n 0 (b .count n))))
+
+    side-ok : sideOk keys (m .array) (walk .cache) n ≡ true
+    unfolding sideOk
+    side-ok =
+        eq-eqb _ _
+        (ap fromLe side-is ∙ sym (ap fromLe (ap₂ (λ (l : List ℕ) (k : ℕ). sideBytes keys l n k (lineMinor (walk .cache) n)) cipher-is major-is
+        ∙ ap (sideBytes keys cipher n 0) minor-is)))
+
+    text-is : lineText keys (m .array) (walk .cache) n ≡ t
+    unfolding lineText
+    text-is =
+        ap₂ xorBytes cipher-is (ap₂ (pad keys n) major-is minor-is)
+        ∙ xor-back t (pad keys n 0 (b .count n)) (omega (arith, length-pad keys n 0 (b .count n)))
+
+  -- ---- what a read answers
+
+  module _ (out : List ℕ) (open-now : accessRefusal keys n out m ≡ 0) (allowance : ℕ) where
+    opened : read keys n allowance out m ≡ readLoaded keys n allowance m out (walk .cache) (walk .cells)
+    unfolding readJudged readPath
+    opened = ap (λ (k : ℕ). readJudged k keys n allowance m out) open-now ∙ ap (readPath keys n allowance m out) path-is
+
+    chosen : Bool → Bool → Reading
+    chosen x y =
+        cond x (answered allowance m stores (Blank (length stores)) (walk .cache) (replicate 64 0) out)
+        (cond y (answered allowance m stores (Done (length stores) 0) (walk .cache) (lineText keys (m .array) (walk .cache) n) out) (refusedRead (refuse m 25 n 0) out))
+
+    pub reads-blank : b .text n ≡ none → read keys n allowance out m ≡ answered allowance m stores (Blank (length stores)) (walk .cache) (replicate 64 0) out
+    unfolding readLoaded chosen RowOk
+    reads-blank e =
+        let none-yet : b .count n ≡ 0 = subst (λ (o : Option (List ℕ)). RowOk keys n (b .count n) o (m .array)) e (was .rows n inside) in
+        opened ∙ ap (λ (x : Bool). chosen x (sideOk keys (m .array) (walk .cache) n)) (eq-eqb (lineMinor (walk .cache) n) 0 (minor-is ∙ none-yet))
+
+    pub reads-text : (t : List ℕ) → b .text n ≡ some t → read keys n allowance out m ≡ answered allowance m stores (Done (length stores) 0) (walk .cache) t out
+    unfolding readLoaded chosen RowOk
+    reads-text t e =
+        let row = subst (λ (o : Option (List ℕ)). RowOk keys n (b .count n) o (m .array)) e (was .rows n inside) in
+        opened
+        ∙ ap (λ (x : Bool). chosen x (sideOk keys (m .array) (walk .cache) n)) (ne-eqb (lineMinor (walk .cache) n) 0 (λ z. omega (arith, minor-is, row .0, z)))
+        ∙ ap (chosen false) (side-ok t (row .1) (row .3))
+        ∙ ap (λ (l : List ℕ). answered allowance m stores (Done (length stores) 0) (walk .cache) l out) (text-is t (row .1) (row .3))
