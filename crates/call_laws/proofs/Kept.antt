@@ -204,7 +204,7 @@ module _ (keys : List ℕ) (n : ℕ) (text : List ℕ) (m : Module) (b : Bytes m
   stop-few true c = le-refl 1
   stop-few false c = zero-le
 
-  batch-sound : (c : List ℕ) (x : List Cell) → Each (Sound (depth (m .control))) x → Each (Sound (depth (m .control))) (writeBatch (depth (m .control)) keys n text c x)
+  pub batch-sound : (c : List ℕ) (x : List Cell) → Each (Sound (depth (m .control))) x → Each (Sound (depth (m .control))) (writeBatch (depth (m .control)) keys n text c x)
   unfolding writeBatch
   batch-sound c x s =
       each-append (each-append s (stop-sound (stopLoss c n) c)) (more (record { inside = data-inside c; size = data-size c; bytes = data-bytes c }) none)

@@ -1,5 +1,6 @@
 pub mod Formatted
 pub mod Live
+pub mod Outcome
 pub mod Reading
 pub mod Recovered
 pub mod Renewed
@@ -7,4 +8,5 @@ pub mod State
 pub mod Stores
 pub mod Tree
 pub mod Walked
+pub mod Writing
 pub mod Written

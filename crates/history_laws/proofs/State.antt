@@ -139,7 +139,7 @@ module _ (keys : List ℕ) (h : ℕ) (low : 1 ≤ h) (high : h ≤ 3) where
     upTo : (n : ℕ) → storeAll (mediaOf m) (made (length x + suc n) (batchStores x r)) ≡ storeAll (media (m .array) now) (made n (finish x r))
     upTo n = cut-committed (m .control) x r size few ws (m .array) n some
 
-    abbrev whole : Media
+    abbrev pub whole : Media
     whole = storeAll (mediaOf m) (batchStores x r)
 
     whole-is : whole ≡ media (put-cells (m .array) x) (cleared (rooted now r))
@@ -147,6 +147,9 @@ module _ (keys : List ℕ) (h : ℕ) (low : 1 ≤ h) (high : h ≤ 3) where
         ap (storeAll (mediaOf m)) (sym (made-all (length x + suc (length x + 2)) (batchStores x r) (omega (arith, length-batch x r some))))
         ∙ upTo (length x + 2) ∙ ap (storeAll (media (m .array) now)) (made-all (length x + 2) (finish x r) (omega (arith, length-finish x r)))
         ∙ finish-stores (media (m .array) now) x r
+
+    pub array-whole : whole .array ≡ put-cells (m .array) x
+    array-whole = ap (λ (d : Media). d .array) whole-is
 
     -- what the stores leave of the record's head
     head : (n : ℕ) → part (storeAll (mediaOf m) (made n (batchStores x r)) .control) 0 7 ≡ part (m .control) 0 7
@@ -191,7 +194,7 @@ module _ (keys : List ℕ) (h : ℕ) (low : 1 ≤ h) (high : h ≤ 3) where
 
     -- cut after it: the record is still valid
     module _ (j : ℕ) where
-      abbrev part-way : Media
+      abbrev pub part-way : Media
       part-way = storeAll (mediaOf m) (made (length x + suc j) (batchStores x r))
 
       depth-kept : depth (part-way .control) ≡ h
