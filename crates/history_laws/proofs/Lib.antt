@@ -3,6 +3,7 @@ pub mod Live
 pub mod Outcome
 pub mod Reading
 pub mod Recovered
+pub mod Recovery
 pub mod Renewed
 pub mod State
 pub mod Stores

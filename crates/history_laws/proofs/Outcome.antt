@@ -1,30 +1,27 @@
 -- What the stores of a call leave, cut or not: the state of the book before it, or of the one after it. Assumes nothing.
-use mathlib.Core.Path.{_≡_, refl, sym, ap, _∙_, subst}
+use mathlib.Core.Path.{_≡_, refl, sym, ap, subst}
 use mathlib.Core.Logic.{_⊎_, inl, inr}
 use mathlib.Core.Bool.{Bool, true, false, cond}
-use mathlib.Core.List.{List, []}
-use Prim.Native.Nat.{ℕ, suc, _+_, _-_, _*_, _^_, _≤_, _<_}
+use mathlib.Core.List.{List}
+use Prim.Native.Nat.{ℕ, suc, _+_, _-_, _^_, _≤_, _<_}
 use native.Mathlib.Omega.{arith}
 use borrow.Author.Tests.{ltb-true, ltb-false}
-use lib.ListN.{length, take}
-use lib.Seq.{take-nil}
-use Rattle.words.proofs.Digits.{Below}
+use lib.ListN.{length}
 use Rattle.words.proofs.Order.{lt-or-ge}
 use Rattle.memory_map.specs.Map.{lines}
-use Rattle.slot_map.specs.Slots.{cacheLength}
 use Rattle.answer.specs.declared.Answer.{Answer}
 use Rattle.answer.specs.declared.Answer.the-variants.{Cut}
 use Rattle.control.specs.Control.{Cell, count}
-use Rattle.journal.specs.Journal.{Store, Media, storeAll, batchStores, made, isCut}
+use Rattle.journal.specs.Journal.{Store, storeAll, batchStores, made, isCut}
 use Rattle.journal.proofs.Each.{Each}
-use Rattle.journal.proofs.Laws.{length-batch, made-all, cut-made, batch-empty, store-none}
+use Rattle.journal.proofs.Laws.{made-all, cut-made}
 use Rattle.journal.proofs.Again.{put-cells}
 use Rattle.calls.specs.Calls.{Module, Called, mediaOf, withMedia, storing, freshRoot, total, countsFrom}
 use Rattle.calls.specs.History.{Book}
 use Rattle.call_laws.proofs.Loads.{Sound}
 use Rattle.history_laws.proofs.Recovered.{Durable}
 use Rattle.history_laws.proofs.Live.{Live}
-use Rattle.history_laws.proofs.State.{RowOk, Settled, Holds, Ready, settled-holds, finished-idle, whole, array-whole, settled-whole, settled-cut, part-way, holds-after}
+use Rattle.history_laws.proofs.State.{RowOk, Holds, Ready, settled-holds, whole, array-whole, settled-whole, settled-cut, holds-after}
 
 -- the two ways in which stores end
 pub cases : (P : Called → Type 0) (allowance : ℕ) (m : Module) (xs : List Store) (answer : Answer) (c : List ℕ)

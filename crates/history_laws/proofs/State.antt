@@ -44,15 +44,15 @@ finished d = storeAll d (pendingStores (d .control))
 
 -- ---- the control record
 
-idle-valid : (k : List ℕ) → validHead k ≡ true → count k ≡ 0 → valid k ≡ true
+pub idle-valid : (k : List ℕ) → validHead k ≡ true → count k ≡ 0 → valid k ≡ true
 unfolding places inMap
 idle-valid k e z = sym (valid-cells k e) ∙ ap (λ (n : ℕ). inMap (cells (depth k)) (places k 24 n)) z
 
-queue-valid : (k : List ℕ) (cs : List Cell) → validHead k ≡ true → queue k ≡ cs → inMap (cells (depth k)) cs ≡ true → valid k ≡ true
+pub queue-valid : (k : List ℕ) (cs : List Cell) → validHead k ≡ true → queue k ≡ cs → inMap (cells (depth k)) cs ≡ true → valid k ≡ true
 unfolding valid
 queue-valid k cs e q i = ap₂ (λ (a b : Bool). a && b) e (ap (inMap (cells (depth k))) q ∙ i)
 
-cleared-count : (k : List ℕ) → length k ≡ controlLength → count (cleared k) ≡ 0
+pub cleared-count : (k : List ℕ) → length k ≡ controlLength → count (cleared k) ≡ 0
 cleared-count k size = count-at (cleared k) ∙ getD-put-in k 15 (0 ∷ []) (omega arith) 0 (lit< tt)
 
 rooted-root : (k : List ℕ) (r : ℕ) → length k ≡ controlLength → r < 2 ^ 64 → root (cleared (rooted k r)) ≡ r

@@ -1,35 +1,33 @@
 -- A read or a write on a module that is ready: what it answers and leaves, for every allowance. Assumes nothing.
 use mathlib.Core.Path.{_≡_, refl, sym, ap, ap₂, _∙_, subst}
 use mathlib.Core.Logic.{_⊎_, inl, inr}
-use mathlib.Core.Bool.{Bool, true, false, cond}
+use mathlib.Core.Bool.{Bool, true, cond}
 use mathlib.Core.List.{List, [], _∷_, _++_}
 use mathlib.Core.Option.{Option, none, some}
-use Prim.Native.Nat.{ℕ, zero, suc, _+_, _-_, _*_, _^_, _≤_, _<_, zero-le}
-use native.Mathlib.Nat.{le-refl}
+use Prim.Native.Nat.{ℕ, zero, suc, _+_, _*_, _^_, _≤_, _<_, zero-le}
 use native.Mathlib.Omega.{arith}
 use borrow.Author.Tests.{eq-eqb, ne-eqb}
-use lib.Dec.{eqb, lit<}
+use lib.Dec.{eqb}
 use lib.ListN.{length, length-append}
 use Rattle.words.specs.Bytes.{part, put}
 use Rattle.words.proofs.Digits.{Below}
 use Rattle.words.proofs.Order.{lt-or-ge, eq-or-not}
 use Rattle.words.proofs.Words.{part-lt}
-use Rattle.memory_map.specs.Map.{pageOf, lines, cellOf}
-use Rattle.memory_map.specs.Map.Item.{line}
+use Rattle.memory_map.specs.Map.{pageOf, lines}
 use Rattle.slot_map.specs.Slots.{slotOf}
 use Rattle.cache.specs.Cache.{owner}
-use Rattle.counter.specs.Counter.{major, phaseOf}
+use Rattle.counter.specs.Counter.{phaseOf}
 use Rattle.pad.specs.Pad.{pad, xorBytes}
 use Rattle.tag.proofs.Tags.{nodeTag-lt}
 use Rattle.answer.specs.declared.Answer.{Answer}
 use Rattle.answer.specs.declared.Answer.the-variants.{Done}
 use Rattle.control.specs.Control.{Cell, depth, root}
 use Rattle.control.proofs.Laws.{root-at}
-use Rattle.journal.specs.Journal.{Store, Media, storeAll, batchStores, made}
+use Rattle.journal.specs.Journal.{Store, Media, storeAll, batchStores}
 use Rattle.journal.proofs.Each.{Each}
 use Rattle.journal.proofs.Laws.{batch-empty, made-all, store-none}
 use Rattle.journal.proofs.Again.{put-cells, put-cells-append}
-use Rattle.calls.specs.Calls.{Module, Called, mediaOf, withMedia, storing, refuse, sideBytes, pageBlock, lineMinor, newMinor, newBlock, stopLoss, dataCell, writeBatch, writeStores, writtenCache, writeLoaded, writePath, writeJudged, write, accessRefusal, freshNode, freshRoot, total, countsFrom}
+use Rattle.calls.specs.Calls.{Module, mediaOf, withMedia, storing, refuse, sideBytes, lineMinor, newBlock, stopLoss, dataCell, writeBatch, writeStores, writtenCache, writeLoaded, writePath, writeJudged, write, accessRefusal, freshNode, freshRoot, total, countsFrom}
 use Rattle.calls.specs.Path.{onPath, nodeCell, renewPath, renewedRoot}
 use Rattle.calls.specs.History.{Book, changed, entered}
 use Rattle.call_laws.proofs.Judged.{Accepted, access-accepted}
@@ -40,10 +38,10 @@ use Rattle.history_laws.proofs.Tree.{counts-agree}
 use Rattle.history_laws.proofs.Stores.{line-cell}
 use Rattle.history_laws.proofs.Recovered.{Durable}
 use Rattle.history_laws.proofs.Live.{Live}
-use Rattle.history_laws.proofs.Written.{dataBytes, g, new-block, new-root, blockCells, written, row-other, row-same, written-durable, cache-written, live-written}
+use Rattle.history_laws.proofs.Written.{dataBytes, new-block, new-root, written, row-other, row-same, written-durable, cache-written, live-written}
 use Rattle.history_laws.proofs.State.{RowOk, Settled, Holds, Ready, settled-holds}
 use Rattle.history_laws.proofs.Outcome.{Outcome, done, cases, stored}
-use Rattle.history_laws.proofs.Reading.{was, page, walk, loads, minor-is, major-is, path-is}
+use Rattle.history_laws.proofs.Reading.{was, walk, loads, minor-is, major-is, path-is}
 
 none-in : (x : List Cell) → length x ≤ 0 → x ≡ []
 none-in [] p = refl
@@ -222,8 +220,12 @@ module _ (keys : List ℕ) (keyed : Below 256 keys) (h : ℕ) (low : 1 ≤ h) (h
 
     few-new : length cells ≤ 8
     few-new =
-        omega (arith, held .deep, subst (λ (d : ℕ). length (writeBatch d keys n text c x) ≤ 2 * depth (m .control) + 2) (held .deep)
-        (batch-bound keys n text m all-bytes plain accepted c x (omega (arith, held .deep, loads keys keyed h low high b m held ready n inside .few))))
+        omega (
+          arith,
+          held .deep,
+          subst (λ (d : ℕ). length (writeBatch d keys n text c x) ≤ 2 * depth (m .control) + 2) (held .deep)
+              (batch-bound keys n text m all-bytes plain accepted c x (omega (arith, held .deep, loads keys keyed h low high b m held ready n inside .few))),
+        )
 
     some-new : 0 < length cells
     unfolding writeBatch
