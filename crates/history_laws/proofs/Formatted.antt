@@ -125,7 +125,7 @@ module _ (keys : List ℕ) (h : ℕ) where
       ∙ part-first (level l) (r .tail ++ shadows) (72 * i) 64 (omega (arith, node-cells-length keys l 0 (nodes h l)))
       ∙ cells-at keys l 0 (nodes h l) i q ∙ ap (freshNode keys none l) here
 
-  none-listed : (s : ℕ) → shadowOwner h (freshArray keys h) s ≡ 0
+  pub none-listed : (s : ℕ) → shadowOwner h (freshArray keys h) s ≡ 0
   unfolding shadowOwner cellOf shadowStart
   none-listed s =
       let at : 72 * (levelStart h (suc h) + s) ≡ 72 * levelStart h (suc h) + 72 * s = omega arith in

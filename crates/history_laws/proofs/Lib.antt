@@ -1,3 +1,4 @@
+pub mod First
 pub mod Formatted
 pub mod Live
 pub mod Outcome
