@@ -152,7 +152,7 @@ NotRefused a = (n k x y : ℕ) → a ≡ Refused n k x y → ⊥
 
 -- The history rule (demand 3): in every allowed list from a done format, a recovery with the same keys is not refused, and one that is done
 -- restores what the book of the list up to it says
-pub HistoryRule : Type 0
+unfoldable pub HistoryRule : Type 0
 HistoryRule =
     (keys : List ℕ) (h : ℕ) (given : Module) (es rest : List Event) (allowance : ℕ)
     → AreBytes keys → (format keys h given) .answer ≡ Done 0 0

@@ -1,3 +1,4 @@
+pub mod Events
 pub mod First
 pub mod Formatted
 pub mod Live
@@ -5,9 +6,12 @@ pub mod Outcome
 pub mod Reading
 pub mod Recovered
 pub mod Recovery
+pub mod Refused
 pub mod Renewed
+pub mod Rule
 pub mod State
 pub mod Stores
+pub mod Told
 pub mod Tree
 pub mod Walked
 pub mod Writing

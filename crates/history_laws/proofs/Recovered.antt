@@ -6,7 +6,7 @@ use mathlib.Core.Bool.{Bool, true, false, _&&_, cond, false≢true}
 use mathlib.Core.List.{List, [], _∷_}
 use mathlib.Core.Option.{Option, none, some}
 use Prim.Native.Nat.{ℕ, zero, suc, _+_, _-_, _*_, _/_, _^_, _≤_, _<_, zero-le}
-use native.Mathlib.Nat.{le-refl}
+use native.Mathlib.Nat.{le-refl, add-zero}
 use native.Mathlib.Omega.{arith}
 use borrow.Author.Tests.{le-leb, eq-eqb}
 use lib.ListN.{length, getD, take, drop}
@@ -68,6 +68,16 @@ module _ (a : List ℕ) (f : ℕ → ℕ) (small : (x : ℕ) → f x < 128) wher
       (λ k q. subst (λ (j : ℕ). (getD ss k 0 ≤ f j) × (f j ≤ getD ss k 0 + 3)) (omega arith) (near (suc k) (omega arith)))
       (λ k q. subst (λ (j : ℕ). phaseByte a j ≡ phaseOf (f j)) (omega arith) (phases (suc k) (omega arith))) in
       ap₂ (λ (b : Bool) (r : Option (List ℕ)). brought b (forward s (phaseByte a n)) r) may rest ∙ ap (λ (x : ℕ). some (x ∷ countsFrom f (suc n) (length ss))) reach
+
+-- ---- sums slot by slot
+
+adds-none : (g : ℕ → ℕ) (s sum : ℕ) → sum ≡ sum + total (countsFrom g s 0)
+unfolding total countsFrom
+adds-none g s sum = sym (add-zero sum)
+
+adds-step : (g : ℕ → ℕ) (s n sum t told : ℕ) → t ≡ sum + g s → told ≡ t + total (countsFrom g (suc s) n) → told ≡ sum + total (countsFrom g s (suc n))
+unfolding total countsFrom
+adds-step g s n sum t told e q = omega (arith, e, q)
 
 -- ---- blocks
 
@@ -231,30 +241,48 @@ module _ (keys : List ℕ) (h : ℕ) (f : ℕ → ℕ) (a : List ℕ) (m : Durab
   abbrev listing : ℕ → ℕ → List ℕ
   listing s n = from (shadowOwner h a) s n
 
+  -- what the block of a page, and the owner of a slot, adds to the sum brought forward
+  unfoldable pub pageSum : ℕ → ℕ
+  pageSum p = total (countsFrom f (64 * p) 64) - total (minors (cellContent a (cellOf h (node 0 p))))
+
+  unfoldable pub added : ℕ → ℕ
+  added zero = 0
+  added (suc p) = pageSum p
+
+  owner-none : (o sum : ℕ) → o ≡ 0 → sum ≡ sum + added o
+  unfolding added
+  owner-none o sum e = sym (ap (λ (k : ℕ). sum + added k) e ∙ add-zero sum)
+
+  owner-some : (o p sum : ℕ) → o ≡ suc p → sum + (total (countsFrom f (64 * p) 64) - total (minors (block p))) ≡ sum + added o
+  unfolding added pageSum
+  owner-some o p sum e = sym (ap (λ (k : ℕ). sum + added k) e)
+
   -- counter slots from s on
   pub record BlocksFrom (n s : ℕ) (c : List ℕ) (sum : ℕ) : Type 0 where
     pub cache : List ℕ
     pub told : ℕ
     pub same : rebuildBlocks h a s (listing s n) c sum ≡ rebuilt cache told
     pub upto : Upto (s + n) cache
+    pub adds : told ≡ sum + total (countsFrom (λ t. added (shadowOwner h a t)) s n)
 
   blocks-from : h ≤ 3 → (n s : ℕ) (c : List ℕ) (sum : ℕ) → s + n ≤ 4 → Upto s c → BlocksFrom n s c sum
   unfolding rebuildBlocks rebuildSlot from slots
-  blocks-from high zero s c sum p u = record { cache = c; told = sum; same = refl; upto = subst (λ (k : ℕ). Upto k c) (omega arith) u }
+  blocks-from high zero s c sum p u = record { cache = c; told = sum; same = refl; upto = subst (λ (k : ℕ). Upto k c) (omega arith) u; adds = adds-none (λ t. added (shadowOwner h a t)) s sum }
   blocks-from high (suc n) s c sum p u = go (λ d t v. blocks-from high n (suc s) d t (omega arith) v) (shadowOwner h a s) refl
     where
       after : Rebuilt → Rebuilt
       after r = elim r as (λ z. Rebuilt) [ damaged ↦ damaged | rebuilt d t ↦ rebuildBlocks h a (suc s) (listing (suc s) n) d t ]
 
-      step : {d : List ℕ} {t : ℕ} → rebuildSlot h a c sum s (shadowOwner h a s) ≡ rebuilt d t → BlocksFrom n (suc s) d t → BlocksFrom (suc n) s c sum
-      step e r = record { cache = r .cache; told = r .told; same = ap after e ∙ r .same; upto = subst (λ (k : ℕ). Upto k (r .cache)) (omega arith) (r .upto) }
+      step : {d : List ℕ} {t : ℕ} → rebuildSlot h a c sum s (shadowOwner h a s) ≡ rebuilt d t → t ≡ sum + added (shadowOwner h a s) → BlocksFrom n (suc s) d t → BlocksFrom (suc n) s c sum
+      step e w r =
+          record { cache = r .cache; told = r .told; same = ap after e ∙ r .same; upto = subst (λ (k : ℕ). Upto k (r .cache)) (omega arith) (r .upto); adds = adds-step (λ t. added (shadowOwner h a t)) s n sum _ (r .told) w (r .adds) }
 
       go : ((d : List ℕ) (t : ℕ) → Upto (suc s) d → BlocksFrom n (suc s) d t) → (o : ℕ) → shadowOwner h a s ≡ o → BlocksFrom (suc n) s c sum
-      go others zero e = step (ap (rebuildSlot h a c sum s) e) (others c sum (skipped s c e u))
+      go others zero e = step (ap (rebuildSlot h a c sum s) e) (owner-none (shadowOwner h a s) sum e) (others c sum (skipped s c e u))
       go others (suc i) e =
           let level : levelOf s ≡ 0 = level-low s (omega arith) in
           let page : i < pages h = omega (arith, subst (λ (k : ℕ). i < nodes h k) level (listed-node s i (omega arith) e .0), nodes-bottom h) in
-          step (ap (rebuildSlot h a c sum s) e ∙ block-built c sum s i page)
+          step (ap (rebuildSlot h a c sum s) e ∙ block-built c sum s i page) (owner-some (shadowOwner h a s) i sum e)
           (others (withSlot c s (suc i) 1 (freshNode keys f 0 i)) _
           (filled high s i c (freshNode keys f 0 i) (omega arith) e (ap (λ (k : ℕ). freshNode keys f k i) (sym level)) u))
 

@@ -4,7 +4,7 @@ use mathlib.Core.Path.{_≡_, refl, sym, ap, ap₂, _∙_, subst}
 use mathlib.Core.Logic.{_⊎_, inl, inr}
 use mathlib.Core.Bool.{Bool, true, false, not, cond, and-eq-true-iff}
 use mathlib.Core.List.{List, [], _∷_}
-use Prim.Native.Nat.{ℕ, _+_, _/_, _≤_, _<_}
+use Prim.Native.Nat.{_-_, ℕ, _+_, _/_, _≤_, _<_}
 use native.Mathlib.Omega.{arith}
 use borrow.Author.Tests.{eq-eqb, ltb-false}
 use lib.Dec.{eqb}
@@ -15,7 +15,7 @@ use Rattle.words.proofs.Digits.{Below, length-digits}
 use Rattle.words.proofs.Order.{lt-or-ge, lt-eq-gt}
 use Rattle.words.proofs.Parts.{length-put}
 use Rattle.words.proofs.Puts.{drop-put}
-use Rattle.memory_map.specs.Map.{cells, arrayLength}
+use Rattle.memory_map.specs.Map.{pageOf, placeOf, lines, cellOf, cells, arrayLength}
 use Rattle.slot_map.specs.Slots.{cacheLength}
 use Rattle.answer.specs.declared.Answer.the-variants.{Done, Cut}
 use Rattle.control.specs.Control.{controlLength, depth, root, count, newRoot, queue, inMap, validHead, valid}
@@ -25,8 +25,12 @@ use Rattle.journal.proofs.Each.{Each, each-take}
 use Rattle.journal.proofs.Laws.{length-finish, pending-some, pending-none, made-all, finish-cells, store-none}
 use Rattle.journal.proofs.Kept.{Within, within-pending, made-kept, stores-front}
 use Rattle.journal.proofs.Again.{cells-stores, rooted, cleared, finish-stores, root-stores, again}
-use Rattle.calls.specs.Calls.{Module, Called, mediaOf, withMedia, judged, recoveryRefusal, recoverMedia, recoverJudged, recover, freshRoot}
-use Rattle.calls.specs.History.{Book}
+use Rattle.calls.specs.Calls.{total, countsFrom, Module, Called, mediaOf, withMedia, judged, recoveryRefusal, recoverMedia, recoverJudged, recover, freshRoot}
+use Rattle.calls.specs.History.{Book, storedMinor}
+use Rattle.counter.specs.Counter.{minor}
+use Rattle.cache.specs.Cache.{cellContent}
+use Rattle.memory_map.specs.Map.Item.{node}
+use Rattle.history_laws.proofs.Told.{told-is}
 use Rattle.call_laws.proofs.Kept.{Bytes, array-cells}
 use Rattle.call_laws.proofs.Rebuilt.{recover-kept}
 use Rattle.history_laws.proofs.Recovered.{Durable, cacheAfter, all-slots, formed-after, blocks, recovered}
@@ -35,11 +39,11 @@ use Rattle.history_laws.proofs.State.{Settled, Holds, Ready, settled-ho
 
 -- ---- nothing refuses it before the stores
 
-passes : (t : Bool) (n : ℕ) (xs : List (Bool × ℕ)) → t ≡ false → judged xs ≡ 0 → judged ((t, n) ∷ xs) ≡ 0
+pub passes : (t : Bool) (n : ℕ) (xs : List (Bool × ℕ)) → t ≡ false → judged xs ≡ 0 → judged ((t, n) ∷ xs) ≡ 0
 unfolding judged
 passes t n xs e r = ap (λ (b : Bool). cond b n (judged xs)) e ∙ r
 
-none-left : judged [] ≡ 0
+pub none-left : judged [] ≡ 0
 unfolding judged
 none-left = refl
 
@@ -47,7 +51,7 @@ valid-head : (k : List ℕ) → valid k ≡ true → validHead k ≡ true
 unfolding valid
 valid-head k e = and-eq-true-iff (validHead k) (inMap (cells (depth k)) (queue k)) .0 e .0
 
-alike : (a b : ℕ) → a ≡ b → not (eqb a b) ≡ false
+pub alike : (a b : ℕ) → a ≡ b → not (eqb a b) ≡ false
 alike a b e = ap not (eq-eqb a b e)
 
 module _ (keys : List ℕ) (h : ℕ) (low : 1 ≤ h) (high : h ≤ 3) (b : Book) (m : Module) (held : Holds keys h low high b m) where
@@ -148,6 +152,7 @@ record Done-at (keys : List ℕ) (x : Module) (f : ℕ → ℕ) (k d : ℕ) (low
   same : recoverMedia keys k x ≡ record { answer = Done k told; after = record { array = x .array; control = x .control; cache = cache } }
   live : Below 256 cache → Live keys d low high f (x .array) cache
   sized : length cache ≡ cacheLength d
+  sum-is : told ≡ total (countsFrom (λ n. f n - minor (cellContent (x .array) (cellOf d (node 0 (pageOf n)))) (placeOf n)) 0 (lines d))
 
 done-at : (keys : List ℕ) (x : Module) (f : ℕ → ℕ) (k : ℕ) (low : 1 ≤ depth (x .control)) (high : depth (x .control) ≤ 3) → length (x .array) ≡ arrayLength (depth (x .control))
     → Durable keys (depth (x .control)) f (x .array) → root (x .control) ≡ freshRoot keys f (depth (x .control)) → Done-at keys x f k (depth (x .control)) low high
@@ -166,6 +171,7 @@ done-at keys x f k low high whole m top =
         clean = λ s i q o z. absurd (omega (arith, u .full s i q o, z));
       };
       sized = u .sized;
+      sum-is = told-is keys (depth (x .control)) high f (x .array) m (blocks keys x f high m top .told) (blocks keys x f high m top .adds);
     }
 
 at-depth : (keys : List ℕ) (x : Module) (f : ℕ → ℕ) (k d : ℕ) → depth (x .control) ≡ d → (low : 1 ≤ d) (high : d ≤ 3) → length (x .array) ≡ arrayLength d
@@ -182,7 +188,7 @@ module _ (keys : List ℕ) (k48 : length keys ≡ 48) (h : ℕ) (low : 1 ≤ h) 
 
   pub data Ends (out : Called) : Type 0 where
     cut : (n : ℕ) → out .answer ≡ Cut n → Holds keys h low high b (out .after) → Ends out
-    rebuilt : (n told : ℕ) → out .answer ≡ Done n told → Holds keys h low high b (out .after) → Ready keys h low high b (out .after) → Ends out
+    rebuilt : (n told : ℕ) → out .answer ≡ Done n told → told ≡ total (countsFrom (λ i. b .count i - storedMinor h (out .after) i) 0 (lines h)) → Holds keys h low high b (out .after) → Ready keys h low high b (out .after) → Ends out
 
   opened : recover keys allowance m ≡ cond (isCut allowance xs)
       (record { answer = Cut (length (made allowance xs)); after = withMedia (storeAll (mediaOf m) (made allowance xs)) (m .cache) })
@@ -211,6 +217,7 @@ module _ (keys : List ℕ) (k48 : length keys ≡ 48) (h : ℕ) (low : 1 ≤ h) 
       ∙ ap (λ (l : List Store). recoverMedia keys (length xs) (withMedia (storeAll (mediaOf m) l) (m .cache))) (made-all allowance xs p) ∙ at .same
 
   pub ends : Ends (recover keys allowance m)
+  unfolding storedMinor
   ends = go (isCut allowance xs) refl
     where
       go : (x : Bool) → isCut allowance xs ≡ x → Ends (recover keys allowance m)
@@ -222,6 +229,6 @@ module _ (keys : List ℕ) (k48 : length keys ≡ 48) (h : ℕ) (low : 1 ≤ h) 
           let same = done-is (ltb-false allowance (length xs) e) e in
           let plain : Below 256 (at .cache) = subst (λ (c : Called). Below 256 (c .after .cache)) same (recover-kept keys allowance m all-bytes .bytes .cache) in
           subst Ends (sym same)
-          (rebuilt (length xs) (at .told) refl
+          (rebuilt (length xs) (at .told) refl (at .sum-is)
           (settled-holds keys h low high b settled-media (at .cache) (at .sized) plain (held .settled))
           (record { idle = held .settled .idle; live = at .live plain }))

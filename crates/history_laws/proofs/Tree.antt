@@ -141,14 +141,14 @@ unfolding countsFrom
 counts-below f n zero e = below-nil (lit< tt)
 counts-below f n (suc k) e = below-cons (e n) (counts-below f (suc n) k e)
 
-counts-at : (f : ℕ → ℕ) (n k j : ℕ) → j < k → getD (countsFrom f n k) j 0 ≡ f (n + j)
+pub counts-at : (f : ℕ → ℕ) (n k j : ℕ) → j < k → getD (countsFrom f n k) j 0 ≡ f (n + j)
 unfolding countsFrom
 counts-at f n zero j p = absurd (omega arith)
 counts-at f n (suc k) zero p = ap f (omega arith)
 counts-at f n (suc k) (suc j) p = let next : suc n + j ≡ n + suc j = omega arith in counts-at f (suc n) k j (omega arith) ∙ ap f next
 
 module _ (keys : List ℕ) (f : ℕ → ℕ) (small : (x : ℕ) → f x < 128) (p : ℕ) where
-  fresh-minors : minors (freshNode keys f 0 p) ≡ countsFrom f (64 * p) 64
+  pub fresh-minors : minors (freshNode keys f 0 p) ≡ countsFrom f (64 * p) 64
   unfolding freshNode
   fresh-minors = minors-counterBlock 0 (countsFrom f (64 * p) 64) (length-counts f (64 * p) 64) (counts-below f (64 * p) 64 small)
 

@@ -218,7 +218,7 @@ module _ (keys : List ℕ) (keyed : Below 256 keys) (h : ℕ) (low : 1 ≤ h) (h
         subst (λ (d : ℕ). Each (Sound d) (writeBatch d keys n text c x)) (held .deep)
         (batch-sound keys n text m all-bytes plain accepted c x (subst (λ (d : ℕ). Each (Sound d) x) (sym (held .deep)) (loads keys keyed h low high b m held ready n inside .sound)))
 
-    few-new : length cells ≤ 8
+    pub few-new : length cells ≤ 8
     few-new =
         omega (
           arith,
@@ -227,11 +227,11 @@ module _ (keys : List ℕ) (keyed : Below 256 keys) (h : ℕ) (low : 1 ≤ h) (h
               (batch-bound keys n text m all-bytes plain accepted c x (omega (arith, held .deep, loads keys keyed h low high b m held ready n inside .few))),
         )
 
-    some-new : 0 < length cells
+    pub some-new : 0 < length cells
     unfolding writeBatch
     some-new = omega (arith, length-append (x ++ cond {A = List Cell} stop (nodeCell h 0 (pageOf n) (newBlock c n) ∷ []) []) (dataCell keys n text c ∷ []))
 
-    abbrev cache-new : List ℕ
+    abbrev pub cache-new : List ℕ
     cache-new = cache-written keys h low high (b .count) (put-cells (m .array) x) c v n inside room path text full stop when
 
     pub write-outcome : (answer : Answer) (allowance : ℕ) → Outcome keys h low high b booked (length cells) answer (storing allowance m (batchStores cells root-new) answer cache-new)

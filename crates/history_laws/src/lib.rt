@@ -1,1 +1,1 @@
-// No code: proofs/ has what leads to the history rule, from the fresh tree to a batch cut anywhere.
+// The history rule, proved of the definitions. It stands in proofs/Rule.antt; docs/ARCHITECTURE.md says in which sequence to read the rest.

@@ -1,0 +1,152 @@
+-- A call that is refused and makes no store leaves the module, whatever its keys. Assumes nothing.
+use mathlib.Core.Path.{_≡_, refl, sym, ap, _∙_}
+use mathlib.Core.Bool.{Bool, true, false, cond}
+use mathlib.Core.List.{List, [], _∷_}
+use Prim.Native.Nat.{ℕ, zero, suc, _+_}
+use native.Mathlib.Omega.{arith}
+use lib.Dec.{eqb}
+use lib.ListN.{length, replicate, take, drop}
+use lib.Seq.{take-nil}
+use Rattle.answer.specs.declared.Answer.{Answer}
+use Rattle.answer.specs.declared.Answer.the-variants.{Done, Blank, Cut, Refused}
+use Rattle.answer.specs.Answer.{codeOf, storesOf}
+use Rattle.control.specs.Control.{Cell, depth, root}
+use Rattle.cache.specs.declared.Found.{Found}
+use Rattle.cache.specs.declared.Found.the-variants.{Nothing, At}
+use Rattle.cache.specs.Cache.{shadowOwners, badSlot, emptyCache, current}
+use Rattle.tag.specs.Tag.{nodeTag}
+use Rattle.journal.specs.Journal.{Store, Media, storeAll, batchStores, pendingStores, made, isCut}
+use Rattle.journal.proofs.Laws.{store-none}
+use Rattle.calls.specs.Path.{Loaded, loaded, differs}
+use Rattle.calls.specs.Calls.{Module, Called, mediaOf, withMedia, storing, refuse, refuseAfter, answered, refusedRead, lineMinor, sideOk, lineText, readLoaded, readPath, pathOf, readJudged, read, accessRefusal, writeStores, writtenCache, writeLoaded, writePath, writeJudged, write, Rebuilt, rebuilt, damaged, rebuildBlocks, rebuildNodes, recoveryRefusal, recoverRoot, recoverRebuilt, recoverShadow, recoverMedia, recoverJudged, recover}
+use Rattle.history_laws.proofs.Outcome.{cases}
+
+-- ---- answers apart
+
+pub done-not : {k t n j a b : ℕ} → Done k t ≡ Refused n j a b → ⊥
+unfolding codeOf
+done-not {n = n} e = let z : _≡_ {A = ℕ} 0 (100 + n) = ap codeOf e in omega arith
+
+pub blank-not : {k n j a b : ℕ} → Blank k ≡ Refused n j a b → ⊥
+unfolding codeOf
+blank-not {n = n} e = let z : _≡_ {A = ℕ} 1 (100 + n) = ap codeOf e in omega arith
+
+pub cut-not : {k n j a b : ℕ} → Cut k ≡ Refused n j a b → ⊥
+unfolding codeOf
+cut-not {n = n} e = let z : _≡_ {A = ℕ} 2 (100 + n) = ap codeOf e in omega arith
+
+-- ---- the calls
+
+abbrev pub Same : Module → Called → Type 0
+Same m out = (n a b : ℕ) → out .answer ≡ Refused n 0 a b → out .after ≡ m
+
+module _ (m : Module) where
+  storing-same : (allowance : ℕ) (xs : List Store) (answer : Answer) (c : List ℕ) → ((n a b : ℕ) → answer ≡ Refused n 0 a b → ⊥) → Same m (storing allowance m xs answer c)
+  storing-same allowance xs answer c nay =
+      cases (Same m) allowance m xs answer c (λ p n a b e. absurd (cut-not e)) (λ p n a b e. absurd (nay n a b e))
+
+  module _ (keys : List ℕ) (line allowance : ℕ) (out : List ℕ) where
+    read-loaded : (c : List ℕ) (x : List Cell) → Same m (readLoaded keys line allowance m out c x .called)
+    unfolding readLoaded answered
+    read-loaded c x = go (eqb (lineMinor c line) 0) (sideOk keys (m .array) c line)
+      where
+        go : (s t : Bool) → Same m ((cond s (answered allowance m (batchStores x (root (m .control))) (Blank (length (batchStores x (root (m .control))))) c (replicate 64 0) out)
+            (cond t (answered allowance m (batchStores x (root (m .control))) (Done (length (batchStores x (root (m .control)))) 0) c (lineText keys (m .array) c line) out)
+            (refusedRead (refuse m 25 line 0) out))) .called)
+        go true t = storing-same allowance (batchStores x (root (m .control))) (Blank (length (batchStores x (root (m .control))))) c (λ n a b e. blank-not e)
+        go false true = storing-same allowance (batchStores x (root (m .control))) (Done (length (batchStores x (root (m .control)))) 0) c (λ n a b e. done-not e)
+        go false false = λ n a b e. refl
+
+    read-path : (r : Loaded) → Same m (readPath keys line allowance m out r .called)
+    unfolding readPath
+    read-path (differs l i) = λ n a b e. refl
+    read-path (loaded c x) = read-loaded c x
+
+    pub read-same : Same m ((read keys line allowance out m) .called)
+    unfolding readJudged
+    read-same = go (accessRefusal keys line out m)
+      where
+        go : (k : ℕ) → Same m (readJudged k keys line allowance m out .called)
+        go zero = read-path (pathOf keys line m)
+        go (suc k) = λ n a b e. refl
+
+  module _ (keys : List ℕ) (line : ℕ) (text : List ℕ) (allowance : ℕ) where
+    write-loaded : (c : List ℕ) (x : List Cell) → Same m (writeLoaded keys line text allowance m c x)
+    unfolding writeLoaded
+    write-loaded c x = go (eqb (lineMinor c line) 127)
+      where
+        go : (s : Bool) → Same m (cond s (refuse m 26 0 0)
+            (storing allowance m (writeStores (depth (m .control)) keys line text c x) (Done (length (writeStores (depth (m .control)) keys line text c x)) 0)
+            (writtenCache (depth (m .control)) keys line c)))
+        go true = λ n a b e. refl
+        go false =
+            storing-same allowance (writeStores (depth (m .control)) keys line text c x) (Done (length (writeStores (depth (m .control)) keys line text c x)) 0)
+            (writtenCache (depth (m .control)) keys line c) (λ n a b e. done-not e)
+
+    write-path : (r : Loaded) → Same m (writePath keys line text allowance m r)
+    unfolding writePath
+    write-path (differs l i) = λ n a b e. refl
+    write-path (loaded c x) = write-loaded c x
+
+    pub write-same : Same m (write keys line text allowance m)
+    unfolding writeJudged
+    write-same = go (accessRefusal keys line text m)
+      where
+        go : (k : ℕ) → Same m (writeJudged k keys line text allowance m)
+        go zero = write-path (pathOf keys line m)
+        go (suc k) = λ n a b e. refl
+
+-- ---- recovery: what it refuses after its stores leaves what they left
+
+record Left (k : ℕ) (x : Module) (out : Called) : Type 0 where
+  told : (n j a b : ℕ) → out .answer ≡ Refused n j a b → j ≡ k
+  same : (n j a b : ℕ) → out .answer ≡ Refused n j a b → out .after ≡ x
+
+left-refused : (k : ℕ) (x : Module) (n a : ℕ) → Left k x (refuseAfter k x n a)
+unfolding storesOf
+left-refused k x n a = record { told = λ i j c d e. sym (ap storesOf e); same = λ i j c d e. refl }
+
+module _ (keys : List ℕ) (k : ℕ) (x : Module) where
+  left-root : (sum : ℕ) (c : List ℕ) → Left k x (recoverRoot keys k x sum c)
+  unfolding recoverRoot
+  left-root sum c = go (eqb (nodeTag keys (current (depth (x .control)) (x .array) c (depth (x .control)) 0) (depth (x .control)) 0) (root (x .control)))
+    where
+      go : (s : Bool) → Left k x (cond s (record { answer = Done k sum; after = record { array = x .array; control = x .control; cache = c } }) (refuseAfter k x 29 0))
+      go true = record { told = λ i j p q e. absurd (done-not e); same = λ i j p q e. absurd (done-not e) }
+      go false = left-refused k x 29 0
+
+  left-rebuilt : (os : List ℕ) (r : Rebuilt) → Left k x (recoverRebuilt keys k x os r)
+  unfolding recoverRebuilt
+  left-rebuilt os damaged = left-refused k x 28 0
+  left-rebuilt os (rebuilt d sum) = left-root sum (rebuildNodes (depth (x .control)) keys (x .array) 4 (drop 4 os) d)
+
+  left-shadow : (os : List ℕ) (r : Found) → Left k x (recoverShadow keys k x os r)
+  unfolding recoverShadow
+  left-shadow os (At s) = left-refused k x 27 s
+  left-shadow os Nothing = left-rebuilt os (rebuildBlocks (depth (x .control)) (x .array) 0 (take 4 os) (emptyCache (depth (x .control))) 0)
+
+  left-media : Left k x (recoverMedia keys k x)
+  left-media = left-shadow (shadowOwners (depth (x .control)) (x .array)) (badSlot (depth (x .control)) (shadowOwners (depth (x .control)) (x .array)))
+
+none-of : (xs : List Store) → length xs ≡ 0 → xs ≡ []
+none-of [] e = refl
+none-of (x ∷ xs) e = absurd (omega arith)
+
+pub recover-same : (keys : List ℕ) (allowance : ℕ) (m : Module) → Same m (recover keys allowance m)
+unfolding recoverJudged
+recover-same keys allowance m = go (recoveryRefusal keys m)
+  where
+    ended : (s : Bool) → Same m (cond s (record { answer = Cut (length (made allowance (pendingStores (m .control)))); after = withMedia (storeAll (mediaOf m) (made allowance (pendingStores (m .control)))) (m .cache) })
+        (recoverMedia keys (length (pendingStores (m .control))) (withMedia (storeAll (mediaOf m) (made allowance (pendingStores (m .control)))) (m .cache))))
+    ended true = λ n a b e. absurd (cut-not e)
+    ended false = λ n a b e.
+        let l = left-media keys (length (pendingStores (m .control))) (withMedia (storeAll (mediaOf m) (made allowance (pendingStores (m .control)))) (m .cache)) in
+        let none-left : pendingStores (m .control) ≡ [] = none-of (pendingStores (m .control)) (sym (l .told n 0 a b e)) in
+        l .same n 0 a b e
+        ∙ ap (λ (xs : List Store). withMedia (storeAll (mediaOf m) (take allowance xs)) (m .cache)) none-left
+        ∙ ap (λ (xs : List Store). withMedia (storeAll (mediaOf m) xs) (m .cache)) (take-nil allowance)
+        ∙ ap (λ (d : Media). withMedia d (m .cache)) (store-none (mediaOf m))
+
+    go : (k : ℕ) → Same m (recoverJudged k keys allowance m)
+    go zero = ended (isCut allowance (pendingStores (m .control)))
+    go (suc k) = λ n a b e. refl
