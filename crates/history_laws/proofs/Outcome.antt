@@ -2,7 +2,7 @@
 use mathlib.Core.Path.{_≡_, refl, sym, ap, subst}
 use mathlib.Core.Logic.{_⊎_, inl, inr}
 use mathlib.Core.Bool.{Bool, true, false, cond}
-use mathlib.Core.List.{List}
+use mathlib.Core.List.{List, [], _∷_}
 use Prim.Native.Nat.{ℕ, suc, _+_, _-_, _^_, _≤_, _<_}
 use native.Mathlib.Omega.{arith}
 use borrow.Author.Tests.{ltb-true, ltb-false}
@@ -22,6 +22,10 @@ use Rattle.call_laws.proofs.Loads.{Sound}
 use Rattle.history_laws.proofs.Recovered.{Durable}
 use Rattle.history_laws.proofs.Live.{Live}
 use Rattle.history_laws.proofs.State.{RowOk, Holds, Ready, settled-holds, whole, array-whole, settled-whole, settled-cut, holds-after}
+
+pub no-elements : {A : Type 0} (xs : List A) → length xs ≤ 0 → xs ≡ []
+no-elements [] p = refl
+no-elements (x ∷ xs) p = absurd (omega arith)
 
 -- the two ways in which stores end
 pub cases : (P : Called → Type 0) (allowance : ℕ) (m : Module) (xs : List Store) (answer : Answer) (c : List ℕ)

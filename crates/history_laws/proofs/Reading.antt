@@ -4,7 +4,7 @@ use mathlib.Core.Path.{_≡_, sym, ap, ap₂, _∙_, subst}
 use mathlib.Core.Bool.{Bool, true, false, cond}
 use mathlib.Core.List.{List}
 use mathlib.Core.Option.{Option, none, some}
-use Prim.Native.Nat.{ℕ, _+_, _*_, _≤_, _<_, zero-le}
+use Prim.Native.Nat.{ℕ, _+_, _*_, _≤_, _<_}
 use native.Mathlib.Omega.{arith}
 use borrow.Author.Tests.{eq-eqb, ne-eqb}
 use lib.Dec.{lit≤}
@@ -13,32 +13,30 @@ use lib.Seq.{take-at, drop-at, take-all, take-take}
 use Rattle.words.specs.Bytes.{fromLe, part}
 use Rattle.words.proofs.Digits.{Below, length-digits}
 use Rattle.words.proofs.Parts.{part-part}
-use Rattle.memory_map.specs.Map.{pageOf, placeOf, pages, lines}
-use Rattle.slot_map.specs.Slots.{slotOf}
-use Rattle.slot_map.proofs.Laws.{slot-within, level-slot}
-use Rattle.counter.specs.Counter.{major, minor}
+use Rattle.memory_map.specs.Map.{pageOf, pages, lines}
+use Rattle.counter.specs.Counter.{major}
 use Rattle.pad.specs.Pad.{pad, xorBytes}
 use Rattle.pad.proofs.Xor.{xor-back}
 use Rattle.pad.proofs.Nonce.{length-pad}
 use Rattle.tag.specs.Tag.{dataTag}
 use Rattle.answer.specs.declared.Answer.the-variants.{Done, Blank}
 use Rattle.control.specs.Control.{root, count}
-use Rattle.cache.specs.Cache.{content, cellContent}
+use Rattle.cache.specs.Cache.{cellContent}
 use Rattle.journal.specs.Journal.{Store, batchStores}
-use Rattle.calls.specs.Calls.{Module, mediaOf, Reading, sideBytes, sideOk, lineText, pageBlock, lineMinor, answered, readLoaded, readPath, readJudged, read, refusedRead, refuse, pathOf, accessRefusal, freshNode, freshRoot}
-use Rattle.calls.specs.Path.{onPath, loaded, loadPath}
+use Rattle.journal.proofs.Again.{put-cells}
+use Rattle.calls.specs.Calls.{Module, mediaOf, Reading, sideBytes, sideOk, lineText, pageBlock, lineMinor, answered, readLoaded, readPath, readJudged, read, refusedRead, refuse, pathOf, accessRefusal, freshRoot}
+use Rattle.calls.specs.Path.{loaded, loadPath}
 use Rattle.calls.specs.History.{Book}
 use Rattle.call_laws.proofs.Judged.{page-inside}
 use Rattle.call_laws.proofs.Loads.{Loads, LoadsIf, path-loads}
-use Rattle.history_laws.proofs.Tree.{path-bottom, fresh-major, fresh-minor}
 use Rattle.history_laws.proofs.Walked.{Walked, walked}
-use Rattle.history_laws.proofs.Written.{dataBytes, length-cipher}
-use Rattle.history_laws.proofs.State.{RowOk, Settled, Holds, Ready, finished-idle}
+use Rattle.history_laws.proofs.Written.{dataBytes, length-cipher, minor-is as minor-held, major-is as major-held}
+use Rattle.history_laws.proofs.State.{RowOk, Settled, Holds, Ready, settled-now}
 
 module _ (keys : List ℕ) (keyed : Below 256 keys) (h : ℕ) (low : 1 ≤ h) (high : h ≤ 3) (b : Book) (m : Module) (held : Holds keys h low high b m) (ready : Ready keys h low high b m)
     (n : ℕ) (inside : n < lines h) where
   pub was : Settled keys h low high b (mediaOf m)
-  was = subst (Settled keys h low high b) (finished-idle keys h low high (mediaOf m) (ready .idle)) (held .settled)
+  was = settled-now keys h low high b m held (ready .idle)
 
   pub page : pageOf n < pages h
   page = page-inside h n inside
@@ -55,19 +53,11 @@ module _ (keys : List ℕ) (keyed : Below 256 keys) (h : ℕ) (low : 1 ≤ h) (h
       subst (LoadsIf h low high keys (m .array) (held .formed .array-length) (held .formed .array-bytes) (pageOf n) page) (walk .same)
       (path-loads h low high keys (m .array) (held .formed .array-length) (held .formed .array-bytes) (pageOf n) page (freshRoot keys (b .count) h) (m .cache) (ready .live .fit))
 
-  block-is : pageBlock (walk .cache) n ≡ freshNode keys (b .count) 0 (pageOf n)
-  block-is =
-      subst (λ (q : ℕ). content (walk .cache) (slotOf 0 q) ≡ freshNode keys (b .count) 0 q) (path-bottom (pageOf n))
-      (walk .live .fresh (slotOf 0 (onPath (pageOf n) 0)) (onPath (pageOf n) 0) (slot-within h 0 (onPath (pageOf n) 0) zero-le) (walk .path 0 zero-le)
-      ∙ ap (λ (k : ℕ). freshNode keys (b .count) k (onPath (pageOf n) 0)) (level-slot 0 (onPath (pageOf n) 0)))
-
   pub minor-is : lineMinor (walk .cache) n ≡ b .count n
-  minor-is =
-      let place : 64 * pageOf n + placeOf n ≡ n = omega arith in
-      ap (λ (l : List ℕ). minor l (placeOf n)) block-is ∙ fresh-minor keys (b .count) (was .durable .small) (pageOf n) (placeOf n) (omega arith) ∙ ap (b .count) place
+  minor-is = minor-held keys h low high (b .count) (put-cells (m .array) (walk .cells)) (walk .cache) (walk .live) n inside (walk .path)
 
   pub major-is : major (pageBlock (walk .cache) n) ≡ 0
-  major-is = ap major block-is ∙ fresh-major keys (b .count) (was .durable .small) (pageOf n)
+  major-is = major-held keys h low high (b .count) (put-cells (m .array) (walk .cells)) (walk .cache) (walk .live) n inside (walk .path)
 
   abbrev pub stores : List Store
   stores = batchStores (walk .cells) (root (m .control))

@@ -5,13 +5,13 @@ use mathlib.Core.Logic.{_⊎_, inl, inr}
 use mathlib.Core.Bool.{Bool, true, false, _&&_, cond, false≢true}
 use mathlib.Core.List.{List, [], _∷_}
 use mathlib.Core.Option.{Option, none, some}
-use Prim.Native.Nat.{ℕ, zero, suc, _+_, _-_, _*_, _/_, _^_, _≤_, _<_, zero-le}
+use Prim.Native.Nat.{ℕ, zero, suc, _+_, _-_, _*_, _/_, _^_, _≤_, _<_}
 use native.Mathlib.Nat.{le-refl, add-zero}
 use native.Mathlib.Omega.{arith}
 use borrow.Author.Tests.{le-leb, eq-eqb}
 use lib.ListN.{length, getD, take, drop}
 use Rattle.words.proofs.Order.{eq-or-not}
-use Rattle.memory_map.specs.Map.{pageOf, placeOf, pages, lines, nodes, slots, cellOf}
+use Rattle.memory_map.specs.Map.{pages, lines, nodes, slots, cellOf}
 use Rattle.memory_map.specs.Map.Item.{node}
 use Rattle.memory_map.proofs.Laws.{nodes-small, nodes-below, nodes-bottom, nodes-some}
 use Rattle.slot_map.specs.Slots.{cacheLength, slotOf, levelOf}
@@ -25,8 +25,7 @@ use Rattle.answer.specs.declared.Answer.the-variants.{Done}
 use Rattle.control.specs.Control.{depth, root}
 use Rattle.calls.specs.Calls.{phaseByte, forwardFrom, countsFrom, freshNode, total, Rebuilt, rebuilt, damaged, rebuildBlock, rebuildSlot, rebuildBlocks, rebuildNode, rebuildNodes, Module, freshRoot, recoverRoot, recoverRebuilt, recoverShadow, recoverMedia, refuseAfter}
 use Rattle.calls.specs.Path.{childTags}
-use Rattle.history_laws.proofs.Tree.{tags-agree, fresh-minor}
-use Rattle.call_laws.proofs.Judged.{page-inside}
+use Rattle.history_laws.proofs.Tree.{tags-agree}
 use Rattle.call_laws.proofs.Fresh.{fresh-length}
 
 -- what the media keep of counts f
@@ -356,13 +355,6 @@ module _ (keys : List ℕ) (x : Module) (f : ℕ → ℕ) (high : depth (x .cont
       ∙ ap (recoverRebuilt keys k x listed-owners) (ap (λ (l : List ℕ). rebuildBlocks h (x .array) 0 l (emptyCache h) 0) counter-slots ∙ blocks .same)
       ∙ ap (λ (l : List ℕ). recoverRoot keys k x (blocks .told) (rebuildNodes h keys (x .array) 4 l (blocks .cache))) node-slots
       ∙ root-right k (blocks .told)
-
-  -- each line's counter is its count
-  pub counter-after : (n : ℕ) → n < lines h → minor (current h (x .array) cacheAfter 0 (pageOf n)) (placeOf n) ≡ f n
-  counter-after n p =
-      let line : 64 * pageOf n + placeOf n ≡ n = omega arith in
-      ap (λ (b : List ℕ). minor b (placeOf n)) (tree-after 0 (pageOf n) zero-le (omega (arith, page-inside h n p, nodes-bottom h)))
-      ∙ fresh-minor keys f (m .small) (pageOf n) (placeOf n) (omega arith) ∙ ap f line
 
   -- and the cache is formed
   pub formed-after : Formed h cacheAfter

@@ -1,7 +1,7 @@
 -- A call that is refused and makes no store leaves the module, whatever its keys. Assumes nothing.
 use mathlib.Core.Path.{_≡_, refl, sym, ap, _∙_}
 use mathlib.Core.Bool.{Bool, true, false, cond}
-use mathlib.Core.List.{List, [], _∷_}
+use mathlib.Core.List.{List, []}
 use Prim.Native.Nat.{ℕ, zero, suc, _+_}
 use native.Mathlib.Omega.{arith}
 use lib.Dec.{eqb}
@@ -19,7 +19,7 @@ use Rattle.journal.specs.Journal.{Store, Media, storeAll, batchStores, pendingS
 use Rattle.journal.proofs.Laws.{store-none}
 use Rattle.calls.specs.Path.{Loaded, loaded, differs}
 use Rattle.calls.specs.Calls.{Module, Called, mediaOf, withMedia, storing, refuse, refuseAfter, answered, refusedRead, lineMinor, sideOk, lineText, readLoaded, readPath, pathOf, readJudged, read, accessRefusal, writeStores, writtenCache, writeLoaded, writePath, writeJudged, write, Rebuilt, rebuilt, damaged, rebuildBlocks, rebuildNodes, recoveryRefusal, recoverRoot, recoverRebuilt, recoverShadow, recoverMedia, recoverJudged, recover}
-use Rattle.history_laws.proofs.Outcome.{cases}
+use Rattle.history_laws.proofs.Outcome.{no-elements, cases}
 
 -- ---- answers apart
 
@@ -128,10 +128,6 @@ module _ (keys : List ℕ) (k : ℕ) (x : Module) where
   left-media : Left k x (recoverMedia keys k x)
   left-media = left-shadow (shadowOwners (depth (x .control)) (x .array)) (badSlot (depth (x .control)) (shadowOwners (depth (x .control)) (x .array)))
 
-none-of : (xs : List Store) → length xs ≡ 0 → xs ≡ []
-none-of [] e = refl
-none-of (x ∷ xs) e = absurd (omega arith)
-
 pub recover-same : (keys : List ℕ) (allowance : ℕ) (m : Module) → Same m (recover keys allowance m)
 unfolding recoverJudged
 recover-same keys allowance m = go (recoveryRefusal keys m)
@@ -141,7 +137,7 @@ recover-same keys allowance m = go (recoveryRefusal keys m)
     ended true = λ n a b e. absurd (cut-not e)
     ended false = λ n a b e.
         let l = left-media keys (length (pendingStores (m .control))) (withMedia (storeAll (mediaOf m) (made allowance (pendingStores (m .control)))) (m .cache)) in
-        let none-left : pendingStores (m .control) ≡ [] = none-of (pendingStores (m .control)) (sym (l .told n 0 a b e)) in
+        let none-left : pendingStores (m .control) ≡ [] = no-elements (pendingStores (m .control)) (omega (arith, l .told n 0 a b e)) in
         l .same n 0 a b e
         ∙ ap (λ (xs : List Store). withMedia (storeAll (mediaOf m) (take allowance xs)) (m .cache)) none-left
         ∙ ap (λ (xs : List Store). withMedia (storeAll (mediaOf m) xs) (m .cache)) (take-nil allowance)

@@ -25,7 +25,7 @@ use Rattle.calls.specs.History.{recovers, Book, emptyBook, Allowed, moduleAfter
 use Rattle.call_laws.proofs.Judged.{page-inside, format-accepted}
 use Rattle.history_laws.proofs.Tree.{counts-agree, fresh-minor}
 use Rattle.history_laws.proofs.Live.{live-current}
-use Rattle.history_laws.proofs.State.{Settled, Holds, Ready, finished-idle}
+use Rattle.history_laws.proofs.State.{Settled, Holds, Ready, settled-now}
 use Rattle.history_laws.proofs.First.{first-holds, first-ready}
 use Rattle.history_laws.proofs.Reading.{walk, stores, reads-blank, reads-text}
 use Rattle.history_laws.proofs.Recovery.{passes, alike, none-left, Ends, cut, rebuilt, ends}
@@ -62,7 +62,7 @@ module _ (allowance : ℕ) (m : Module) (xs : List Store) (c out : List ℕ) whe
 module _ (keys : List ℕ) (keyed : Below 256 keys) (k48 : length keys ≡ 48) (h : ℕ) (low : 1 ≤ h) (high : h ≤ 3) (b : Book) (m : Module)
     (v : Holds keys h low high b m) (r : Ready keys h low high b m) where
   was : Settled keys h low high b (mediaOf m)
-  was = subst (Settled keys h low high b) (finished-idle keys h low high (mediaOf m) (r .idle)) (v .settled)
+  was = settled-now keys h low high b m v (r .idle)
 
   counter-is : (n : ℕ) → n < lines h → counter h m n ≡ b .count n
   unfolding counter

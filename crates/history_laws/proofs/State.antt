@@ -90,6 +90,10 @@ module _ (keys : List ℕ) (h : ℕ) (low : 1 ≤ h) (high : h ≤ 3) where
   pub finished-idle : (d : Media) → count (d .control) ≡ 0 → finished d ≡ d
   finished-idle d e = ap (storeAll d) (pending-none (d .control) e) ∙ store-none d
 
+  -- where nothing is pending, the media are settled as they are
+  pub settled-now : (b : Book) (m : Module) → Holds b m → count (m .control) ≡ 0 → Settled b (mediaOf m)
+  settled-now b m held idle = subst (Settled b) (finished-idle (mediaOf m) idle) (held .settled)
+
   -- settled media under any cache
   pub settled-holds : (b : Book) (d : Media) (c : List ℕ) → length c ≡ cacheLength h → Below 256 c → Settled b d → Holds b (withMedia d c)
   settled-holds b d c size plain s =
@@ -128,7 +132,7 @@ module _ (keys : List ℕ) (h : ℕ) (low : 1 ≤ h) (high : h ≤ 3) where
     within = within-batch (arrayLength h / 72) r ws inside few
 
     was : Settled b (mediaOf m)
-    was = subst (Settled b) (finished-idle (mediaOf m) idle) (held .settled)
+    was = settled-now b m held idle
 
     abbrev now : List ℕ
     now = committed (m .control) x r

@@ -1,16 +1,18 @@
 -- Laws of the fresh tree: a node is made of the counts of its own lines, holds the tags of its children, and a write renews its path to the
 -- tree of the new counts. Assumes nothing.
 use mathlib.Core.Path.{_≡_, refl, sym, ap, ap₂, _∙_}
+use mathlib.Core.Bool.{Bool, cond}
 use mathlib.Core.List.{List, _∷_, _++_, append-assoc}
 use Prim.Native.Nat.{ℕ, zero, suc, _+_, _*_, _/_, _%_, _^_, _≤_, _<_}
-use native.Mathlib.Nat.{le-refl, div-one, div-div-eq-div-mul, pow-suc}
+use native.Mathlib.Nat.{le-refl, div-one, div-div-eq-div-mul, pow-suc, div-eq-of-lt}
 use native.Mathlib.Omega.{arith}
+use borrow.Author.Tests.{eq-eqb, ne-eqb}
 use lib.Dec.{lit<}
 use lib.ListN.{length, getD, set, take, drop}
 use lib.Seq.{take-append-add, drop-append-add, take-at, drop-at}
 use Rattle.words.specs.Bytes.{fromLe, toLe, part, put}
 use Rattle.words.proofs.Digits.{Below, below-nil, below-cons, length-digits, number-exact}
-use Rattle.memory_map.specs.Map.{pageOf}
+use Rattle.memory_map.specs.Map.{pageOf, pages}
 use Rattle.slot_map.specs.Slots.{slotOf}
 use Rattle.counter.specs.Counter.{major, minors, minor, counterBlock, withMinor}
 use Rattle.counter.proofs.Laws.{major-counterBlock, minors-counterBlock}
@@ -18,6 +20,7 @@ use Rattle.tag.specs.Tag.{nodeTag}
 use Rattle.tag.proofs.Tags.{nodeTag-lt}
 use Rattle.cache.specs.Cache.{content}
 use Rattle.calls.specs.Calls.{countsFrom, freshNode}
+use Rattle.calls.specs.History.{changed}
 use Rattle.calls.specs.Path.{onPath, childTag, renewed, tagsFrom}
 use Rattle.call_laws.proofs.Fresh.{fresh-bytes}
 
@@ -29,6 +32,20 @@ path-up p l = ap (λ (n : ℕ). p / n) (pow-suc 8 l) ∙ sym (div-div-eq-div-mul
 
 pub path-bottom : (p : ℕ) → onPath p 0 ≡ p
 path-bottom p = div-one p
+
+pub path-top : (h p : ℕ) → p < pages h → onPath p h ≡ 0
+unfolding pages
+path-top h p q = div-eq-of-lt q
+
+-- ---- a function changed at one number
+
+pub changed-same : {A : Type 0} (f : ℕ → A) (n : ℕ) (x : A) → changed f n x n ≡ x
+unfolding changed
+changed-same f n x = ap (λ (b : Bool). cond b x (f n)) (eq-eqb n n refl)
+
+pub changed-other : {A : Type 0} (f : ℕ → A) (n : ℕ) (x : A) (k : ℕ) → (k ≡ n → ⊥) → changed f n x k ≡ f k
+unfolding changed
+changed-other f n x k e = ap (λ (b : Bool). cond b x (f k)) (ne-eqb k n e)
 
 -- ---- lists of counts
 

@@ -5,7 +5,7 @@ use mathlib.Core.Logic.{_⊎_, inl, inr}
 use mathlib.Core.Bool.{Bool, true, false, cond}
 use mathlib.Core.List.{List, [], _∷_, _++_}
 use Prim.Native.Nat.{ℕ, zero, suc, _-_, _*_, _≤_, _<_}
-use native.Mathlib.Nat.{le-refl, div-eq-of-lt, suc-inj}
+use native.Mathlib.Nat.{le-refl, suc-inj}
 use native.Mathlib.Omega.{arith}
 use borrow.Author.Tests.{eq-eqb}
 use lib.Dec.{eqb}
@@ -25,7 +25,7 @@ use Rattle.journal.proofs.Again.{put-cells, put-cells-append}
 use Rattle.calls.specs.Calls.{freshNode, freshRoot}
 use Rattle.calls.specs.Path.{onPath, childTag, evicted, shadowCell, Loaded, loaded, differs, loadNode, loadLevels, loadPath}
 use Rattle.call_laws.proofs.Loads.{Fit, TookIf, load-took, path-within}
-use Rattle.history_laws.proofs.Tree.{path-up, child-fresh}
+use Rattle.history_laws.proofs.Tree.{path-up, child-fresh, path-top}
 use Rattle.history_laws.proofs.Live.{Live, not-listed, own-same, own-other, array-next, live-next, lower-next, rows-next}
 
 module _ (keys : List ℕ) (h : ℕ) (low : 1 ≤ h) (high : h ≤ 3) (f : ℕ → ℕ) (base : List ℕ) (whole : length base ≡ arrayLength h) (plain : Below 256 base) where
@@ -113,8 +113,7 @@ module _ (keys : List ℕ) (h : ℕ) (low : 1 ≤ h) (high : h ≤ 3) (f : ℕ �
 
   module _ (keyed : Below 256 keys) (p : ℕ) (page : p < pages h) where
     top-node : onPath p h ≡ 0
-    unfolding pages
-    top-node = div-eq-of-lt page
+    top-node = path-top h p page
 
     pub record Levels (n t : ℕ) (c : List ℕ) (x : List Cell) : Type 0 where
       pub cache : List ℕ

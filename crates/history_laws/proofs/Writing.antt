@@ -6,7 +6,7 @@ use mathlib.Core.List.{List, [], _∷_, _++_}
 use mathlib.Core.Option.{Option, none, some}
 use Prim.Native.Nat.{ℕ, zero, suc, _+_, _*_, _^_, _≤_, _<_, zero-le}
 use native.Mathlib.Omega.{arith}
-use borrow.Author.Tests.{eq-eqb, ne-eqb}
+use borrow.Author.Tests.{ne-eqb}
 use lib.Dec.{eqb}
 use lib.ListN.{length, length-append}
 use Rattle.words.specs.Bytes.{part, put}
@@ -34,31 +34,19 @@ use Rattle.call_laws.proofs.Judged.{Accepted, access-accepted}
 use Rattle.call_laws.proofs.Kept.{Bytes, batch-sound, batch-bound}
 use Rattle.call_laws.proofs.Loads.{Sound}
 use Rattle.call_laws.proofs.Fresh.{fresh-bytes}
-use Rattle.history_laws.proofs.Tree.{counts-agree}
+use Rattle.history_laws.proofs.Tree.{counts-agree, changed-same, changed-other}
 use Rattle.history_laws.proofs.Stores.{line-cell}
 use Rattle.history_laws.proofs.Recovered.{Durable}
 use Rattle.history_laws.proofs.Live.{Live}
 use Rattle.history_laws.proofs.Written.{dataBytes, new-block, new-root, written, row-other, row-same, written-durable, cache-written, live-written}
 use Rattle.history_laws.proofs.State.{RowOk, Settled, Holds, Ready, settled-holds}
-use Rattle.history_laws.proofs.Outcome.{Outcome, done, cases, stored}
+use Rattle.history_laws.proofs.Outcome.{no-elements, Outcome, done, cases, stored}
 use Rattle.history_laws.proofs.Reading.{was, walk, loads, minor-is, major-is, path-is}
-
-none-in : (x : List Cell) → length x ≤ 0 → x ≡ []
-none-in [] p = refl
-none-in (c ∷ cs) p = absurd (omega arith)
 
 row-moved : (keys : List ℕ) (i k l : ℕ) (a e : List ℕ) (o : Option (List ℕ)) → k ≡ l → part e (72 * i) 72 ≡ part a (72 * i) 72 → RowOk keys i k o a → RowOk keys i l o e
 unfolding RowOk
 row-moved keys i k l a e none z q r = sym z ∙ r
 row-moved keys i k l a e (some t) z q r = (subst (λ (j : ℕ). 0 < j) z (r .0), r .1, r .2, q ∙ r .3 ∙ ap (dataBytes keys i t) z)
-
-changed-same : {A : Type 0} (f : ℕ → A) (n : ℕ) (x : A) → changed f n x n ≡ x
-unfolding changed
-changed-same f n x = ap (λ (b : Bool). cond b x (f n)) (eq-eqb n n refl)
-
-changed-other : {A : Type 0} (f : ℕ → A) (n : ℕ) (x : A) (k : ℕ) → (k ≡ n → ⊥) → changed f n x k ≡ f k
-unfolding changed
-changed-other f n x k e = ap (λ (b : Bool). cond b x (f k)) (ne-eqb k n e)
 
 row-some : (keys : List ℕ) (i k : ℕ) (a t : List ℕ) → 0 < k → length t ≡ 64 → Below 256 t → part a (72 * i) 72 ≡ dataBytes keys i t k → RowOk keys i k (some t) a
 unfolding RowOk
@@ -71,12 +59,10 @@ module _ (f : ℕ → ℕ) (n : ℕ) where
   raised = changed f n (suc (f n))
 
   raised-same : raised n ≡ suc (f n)
-  unfolding changed
-  raised-same = ap (λ (b : Bool). cond b (suc (f n)) (f n)) (eq-eqb n n refl)
+  raised-same = changed-same f n (suc (f n))
 
   raised-other : (x : ℕ) → (x ≡ n → ⊥) → raised x ≡ f x
-  unfolding changed
-  raised-other x e = ap (λ (b : Bool). cond b (suc (f n)) (f x)) (ne-eqb x n e)
+  raised-other x e = changed-other f n (suc (f n)) x e
 
   total-raised : (s k : ℕ) → s ≤ n → n < s + k → total (countsFrom raised s k) ≡ suc (total (countsFrom f s k))
   unfolding total countsFrom
@@ -136,7 +122,7 @@ module _ (keys : List ℕ) (keyed : Below 256 keys) (h : ℕ) (low : 1 ≤ h) (h
       go (inl p) =
           stored keys h low high b b m held (ready .idle) x (loads keys keyed h low high b m held ready n inside .sound) (omega (arith, six)) p (root (m .control)) root-word
           (v .durable) rows-kept (s .top) (s .sum) c v answer allowance
-      go (inr p) = nothing (none-in x p) answer allowance
+      go (inr p) = nothing (no-elements x p) answer allowance
 
   -- ---- a write
 
@@ -164,10 +150,10 @@ module _ (keys : List ℕ) (keyed : Below 256 keys) (h : ℕ) (low : 1 ≤ h) (h
 
     block-new : newBlock c n ≡ freshNode keys (booked .count) 0 (pageOf n)
     unfolding entered
-    block-new = new-block keys h low high (b .count) (put-cells (m .array) x) c v n inside room path
+    block-new = new-block keys h low high (b .count) (put-cells (m .array) x) c v n inside path
 
     abbrev array-new : List ℕ
-    array-new = written keys h low high (b .count) (put-cells (m .array) x) c v n inside room path text full stop when
+    array-new = written keys h low high (b .count) (put-cells (m .array) x) c v n inside path room text full stop when
 
     array-is : put-cells (m .array) cells ≡ array-new
     unfolding writeBatch put-cells entered
@@ -187,14 +173,14 @@ module _ (keys : List ℕ) (keyed : Below 256 keys) (h : ℕ) (low : 1 ≤ h) (h
         own =
             subst (λ (o : Option (List ℕ)). RowOk keys n (booked .count n) o array-new) (sym (changed-same (b .text) n (some text)))
             (row-some keys n (booked .count n) array-new text (omega (arith, raised-same (b .count) n)) full plain
-            (row-same keys h low high (b .count) (put-cells (m .array) x) c v n inside room path text full stop when ∙ ap (dataBytes keys n text) (sym (raised-same (b .count) n))))
+            (row-same keys h low high (b .count) (put-cells (m .array) x) c v n inside path room text full stop when ∙ ap (dataBytes keys n text) (sym (raised-same (b .count) n))))
 
         go : (i ≡ n) ⊎ (i ≡ n → ⊥) → RowOk keys i (booked .count i) (booked .text i) array-new
         go (inl z) = subst (λ (k : ℕ). RowOk keys k (booked .count k) (booked .text k) array-new) (sym z) own
         go (inr z) =
             subst (λ (o : Option (List ℕ)). RowOk keys i (booked .count i) o array-new) (sym (changed-other (b .text) n (some text) i z))
             (row-moved keys i _ _ _ _ (b .text i) (sym (raised-other (b .count) n i z))
-            (row-other keys h low high (b .count) (put-cells (m .array) x) c v n inside room path text full stop when i q z) (rows-kept i q))
+            (row-other keys h low high (b .count) (put-cells (m .array) x) c v n inside path room text full stop when i q z) (rows-kept i q))
 
     sum-new : total (countsFrom (booked .count) 0 (lines h)) ≡ booked .writes
     unfolding entered
@@ -205,7 +191,7 @@ module _ (keys : List ℕ) (keyed : Below 256 keys) (h : ℕ) (low : 1 ≤ h) (h
 
     root-is : root-new ≡ freshRoot keys (booked .count) h
     unfolding entered
-    root-is = new-root keys h low high (b .count) (put-cells (m .array) x) c v n inside room path
+    root-is = new-root keys h low high (b .count) (put-cells (m .array) x) c v n inside path
 
     all-bytes : Bytes m
     all-bytes = record { array = held .formed .array-bytes; control = held .formed .control-bytes; cache = held .plain }
@@ -232,17 +218,17 @@ module _ (keys : List ℕ) (keyed : Below 256 keys) (h : ℕ) (low : 1 ≤ h) (h
     some-new = omega (arith, length-append (x ++ cond {A = List Cell} stop (nodeCell h 0 (pageOf n) (newBlock c n) ∷ []) []) (dataCell keys n text c ∷ []))
 
     abbrev pub cache-new : List ℕ
-    cache-new = cache-written keys h low high (b .count) (put-cells (m .array) x) c v n inside room path text full stop when
+    cache-new = cache-written keys h low high (b .count) (put-cells (m .array) x) c v n inside path room text full stop when
 
     pub write-outcome : (answer : Answer) (allowance : ℕ) → Outcome keys h low high b booked (length cells) answer (storing allowance m (batchStores cells root-new) answer cache-new)
     unfolding entered
     write-outcome answer allowance =
         stored keys h low high b booked m held (ready .idle) cells sound-new few-new some-new root-new
         (omega (arith, root-is, nodeTag-lt keys (freshNode keys (booked .count) h 0) h 0 keyed (fresh-bytes keys (booked .count) h 0)))
-        (subst (Durable keys h (booked .count)) (sym array-is) (written-durable keys h low high (b .count) (put-cells (m .array) x) c v n inside room path text full stop when))
+        (subst (Durable keys h (booked .count)) (sym array-is) (written-durable keys h low high (b .count) (put-cells (m .array) x) c v n inside path room text full stop when))
         rows-new root-is sum-new cache-new
         (subst (λ (a : List ℕ). Live keys h low high (booked .count) a cache-new) (sym array-is)
-        (live-written keys h low high (b .count) (put-cells (m .array) x) c v n inside room path text full stop when)) answer allowance
+        (live-written keys h low high (b .count) (put-cells (m .array) x) c v n inside path room text full stop when)) answer allowance
 
     pub write-is : (allowance : ℕ) → write keys n text allowance m ≡ storing allowance m (batchStores cells root-new) (Done (length (batchStores cells root-new)) 0) cache-new
     unfolding writeJudged writePath writeLoaded writeStores writtenCache entered

@@ -5,9 +5,9 @@ use mathlib.Core.Logic.{_⊎_, inl, inr}
 use mathlib.Core.Bool.{Bool, true, false, cond, false≢true}
 use mathlib.Core.List.{List, [], _∷_, _++_}
 use Prim.Native.Nat.{ℕ, zero, suc, _+_, _*_, _≤_, _<_, zero-le}
-use native.Mathlib.Nat.{le-refl, div-eq-of-lt}
+use native.Mathlib.Nat.{le-refl}
 use native.Mathlib.Omega.{arith}
-use borrow.Author.Tests.{eq-eqb, ne-eqb}
+use borrow.Author.Tests.{eq-eqb}
 use lib.Dec.{eqb, lit<}
 use lib.ListN.{length, getD, replicate, length-append}
 use lib.Seq.{take-at, take-all, getD-at}
@@ -35,7 +35,7 @@ use Rattle.calls.specs.History.{changed}
 use Rattle.call_laws.proofs.Judged.{page-inside}
 use Rattle.call_laws.proofs.Fresh.{fresh-length}
 use Rattle.call_laws.proofs.Loads.{Fit}
-use Rattle.history_laws.proofs.Tree.{path-bottom, fresh-agree, fresh-major, fresh-minor, fresh-with, renewed-fresh}
+use Rattle.history_laws.proofs.Tree.{path-bottom, fresh-agree, fresh-major, fresh-minor, fresh-with, renewed-fresh, path-top, changed-same, changed-other}
 use Rattle.history_laws.proofs.Recovered.{Durable}
 use Rattle.history_laws.proofs.Stores.{kind, first, second, in-node, in-line, line-cell, length-after, same-part, nodes-apart, shadows-apart, line-apart, line-kept, node-apart}
 use Rattle.history_laws.proofs.Live.{Live}
@@ -63,7 +63,7 @@ module _ (keys : List ℕ) (n : ℕ) (text : List ℕ) (full : length text ≡ 6
 phase-in : (a : List ℕ) (x : ℕ) → phaseByte a x ≡ getD (part a (72 * x) 72) 64 0
 phase-in a x = sym (getD-part a (72 * x) 72 64 (lit< tt))
 
-module _ (keys : List ℕ) (h : ℕ) (low : 1 ≤ h) (high : h ≤ 3) (f : ℕ → ℕ) (a c : List ℕ) (v : Live keys h low high f a c) (n : ℕ) (inside : n < lines h) (room : f n < 127)
+module _ (keys : List ℕ) (h : ℕ) (low : 1 ≤ h) (high : h ≤ 3) (f : ℕ → ℕ) (a c : List ℕ) (v : Live keys h low high f a c) (n : ℕ) (inside : n < lines h)
     (held : (k : ℕ) → k ≤ h → owner c (slotOf k (onPath (pageOf n) k)) ≡ suc (onPath (pageOf n) k)) where
   abbrev p : ℕ
   p = pageOf n
@@ -76,22 +76,13 @@ module _ (keys : List ℕ) (h : ℕ) (low : 1 ≤ h) (high : h ≤ 3) (f : ℕ �
   g = changed f n (suc (f n))
 
   g-same : g n ≡ suc (f n)
-  unfolding changed
-  g-same = ap (λ (b : Bool). cond b (suc (f n)) (f n)) (eq-eqb n n refl)
+  g-same = changed-same f n (suc (f n))
 
   g-other : (x : ℕ) → (x ≡ n → ⊥) → f x ≡ g x
-  unfolding changed
-  g-other x e = sym (ap (λ (b : Bool). cond b (suc (f n)) (f x)) (ne-eqb x n e))
+  g-other x e = sym (changed-other f n (suc (f n)) x e)
 
   g-page : (x : ℕ) → (pageOf x ≡ p → ⊥) → f x ≡ g x
   g-page x e = g-other x (λ z. e (ap pageOf z))
-
-  g-small : (x : ℕ) → g x < 128
-  g-small x = go (eq-or-not x n)
-    where
-      go : (x ≡ n) ⊎ (x ≡ n → ⊥) → g x < 128
-      go (inl z) = omega (arith, ap g z ∙ g-same)
-      go (inr z) = omega (arith, g-other x z, v .durable .small x)
 
   place : 64 * p + placeOf n ≡ n
   place = omega arith
@@ -115,14 +106,10 @@ module _ (keys : List ℕ) (h : ℕ) (low : 1 ≤ h) (high : h ≤ 3) (f : ℕ �
       ap₂ (λ (b : List ℕ) (m : ℕ). withMinor b (placeOf n) m) block-is (ap suc minor-is ∙ sym (ap g place ∙ g-same))
       ∙ fresh-with keys f (v .durable .small) p g (placeOf n) (λ x e. g-other x (λ z. e (z ∙ sym place)))
 
-  top-node : onPath p h ≡ 0
-  unfolding pages
-  top-node = div-eq-of-lt page
-
   pub new-root : renewedRoot h keys c p (newBlock c n) ≡ freshRoot keys g h
   new-root =
       ap (λ (b : List ℕ). renewedRoot h keys c p b) new-block
-      ∙ ap (λ (b : List ℕ). nodeTag keys b h 0) (renewed-fresh keys h p c f g path g-page h (le-refl h) ∙ ap (freshNode keys g h) top-node)
+      ∙ ap (λ (b : List ℕ). nodeTag keys b h 0) (renewed-fresh keys h p c f g path g-page h (le-refl h) ∙ ap (freshNode keys g h) (path-top h p page))
 
   -- a node off the path is as it was
   off-path : (k i : ℕ) → (i ≡ onPath p k → ⊥) → freshNode keys f k i ≡ freshNode keys g k i
@@ -174,7 +161,14 @@ module _ (keys : List ℕ) (h : ℕ) (low : 1 ≤ h) (high : h ≤ 3) (f : ℕ �
 
   -- ---- the data cell
 
-  module _ (text : List ℕ) (full : length text ≡ 64) (stop : Bool) (when : stop ≡ eqb (phaseOf (suc (f n))) 0) where
+  module _ (room : f n < 127) (text : List ℕ) (full : length text ≡ 64) (stop : Bool) (when : stop ≡ eqb (phaseOf (suc (f n))) 0) where
+    g-small : (x : ℕ) → g x < 128
+    g-small x = go (eq-or-not x n)
+      where
+        go : (x ≡ n) ⊎ (x ≡ n → ⊥) → g x < 128
+        go (inl z) = omega (arith, ap g z ∙ g-same)
+        go (inr z) = omega (arith, g-other x z, v .durable .small x)
+
     abbrev bytes : List ℕ
     bytes = dataBytes keys n text (suc (f n))
 
