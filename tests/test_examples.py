@@ -193,7 +193,11 @@ use Prim.Native.Nat.{ℕ}
 use lib.ListN.{replicate, drop}
 use Rattle.words.specs.Bytes.{put}
 use Rattle.answer.specs.declared.Answer.the-variants.{Done, Blank, Cut, Refused}
-use Rattle.calls.specs.Calls.{Module, read, write, recover, format}
+use Rattle.calls.specs.Call.{Module}
+use Rattle.calls.specs.Read.{read}
+use Rattle.calls.specs.Write.{write}
+use Rattle.calls.specs.Recovery.{recover}
+use Rattle.calls.specs.Format.{format}
 use Rattle.examples.specs.Bench.{unlimited}
 use Rattle.calls.proofs.Run.{run}
 use Rattle.calls.proofs.Sparse.{sparse, upTo}
@@ -204,7 +208,7 @@ MADE = "-- Written by tests/test_examples.py. %s Assumes nothing.\n"
 def states_file(made, what):
     text = MADE % what + """use Prim.Native.Nat.{ℕ}
 use mathlib.Core.List.{List, [], _∷_}
-use Rattle.calls.specs.Calls.{Module}
+use Rattle.calls.specs.Call.{Module}
 use Rattle.calls.proofs.Sparse.{sparse}
 """
     for name, value in made.modules:
@@ -263,7 +267,7 @@ def bench_step(made, words, allowance, before, count):
 
 def listing_text(made, links):
     return MADE % "The bench listing of the paper, whole: what the definitions compute for its commands." + """use mathlib.Core.Path.{_≡_, _∙_, ap}
-use Rattle.calls.specs.Calls.{Called}
+use Rattle.calls.specs.Call.{Called}
 use Rattle.examples.specs.Bench.{unlimited, bench, benchRun, commands, printed}
 use Rattle.examples.proofs.Links.{link-w, link-r, link-p, link-k, link-end, kept-done, kept-blank}
 use Rattle.bench_listing.specs.States.{m0, given}
@@ -430,7 +434,8 @@ def refusal_examples():
         "crates/refusal_examples/specs/States.antt": states_file(made, "The modules of the refusal examples."),
         "crates/refusal_examples/proofs/Refusals.antt": theorems_file(
             made, "refusal_examples", "Each refusal with its place, pairs of faults that show the sequence, the list, and what C is told.",
-            "use Rattle.calls.specs.Calls.{ListCall, codeForC, bufferForC, leftForC}\n"
+            "use Rattle.calls.specs.DirtyPages.{ListCall}\n"
+            "use Rattle.calls.specs.ForC.{codeForC, bufferForC, leftForC}\n"
             "use Rattle.bench_listing.specs.States.{m0, m1}\n"),
     }
 
@@ -486,7 +491,7 @@ def rebuilding(made, before, depth, first):
 
 
 REBUILDING = """use Rattle.cache.specs.Cache.{emptyCache}
-use Rattle.calls.specs.Calls.{rebuilt, rebuildBlocks, rebuildNodes}
+use Rattle.calls.specs.Recovery.{rebuilt, rebuildBlocks, rebuildNodes}
 """
 
 
@@ -527,7 +532,9 @@ use Rattle.words.specs.Bytes.{part}
 use Rattle.answer.specs.declared.Answer.{Answer}
 use Rattle.answer.specs.declared.Answer.the-variants.{Done}
 use Rattle.cache.specs.Cache.{emptyCache}
-use Rattle.calls.specs.Calls.{Module, Called, write, rebuilt, rebuildBlocks, rebuildNodes}
+use Rattle.calls.specs.Call.{Module, Called}
+use Rattle.calls.specs.Write.{write}
+use Rattle.calls.specs.Recovery.{rebuilt, rebuildBlocks, rebuildNodes}
 use Rattle.calls.proofs.Run.{run}
 use Rattle.calls.proofs.Sparse.{sparse, upTo}
 

@@ -1,6 +1,6 @@
 -- Written by tests/test_examples.py. The bench listing of the paper, whole: what the definitions compute for its commands. Assumes nothing.
 use mathlib.Core.Path.{_≡_, _∙_, ap}
-use Rattle.calls.specs.Calls.{Called}
+use Rattle.calls.specs.Call.{Called}
 use Rattle.examples.specs.Bench.{unlimited, bench, benchRun, commands, printed}
 use Rattle.examples.proofs.Links.{link-w, link-r, link-p, link-k, link-end, kept-done, kept-blank}
 use Rattle.bench_listing.specs.States.{m0, given}

@@ -2,7 +2,10 @@
 use mathlib.Core.Path.{_≡_, refl}
 use lib.ListN.{replicate}
 use Rattle.answer.specs.declared.Answer.the-variants.{Done, Blank, Cut}
-use Rattle.calls.specs.Calls.{read, write, recover, format}
+use Rattle.calls.specs.Read.{read}
+use Rattle.calls.specs.Write.{write}
+use Rattle.calls.specs.Recovery.{recover}
+use Rattle.calls.specs.Format.{format}
 use Rattle.examples.specs.Bench.{unlimited}
 use Rattle.calls.proofs.Run.{run}
 use Rattle.calls.proofs.Sparse.{sparse, upTo}

@@ -1,7 +1,7 @@
 -- Written by tests/test_examples.py. The modules between the commands of the bench listing. Assumes nothing.
 use Prim.Native.Nat.{ℕ}
 use mathlib.Core.List.{List, [], _∷_}
-use Rattle.calls.specs.Calls.{Module}
+use Rattle.calls.specs.Call.{Module}
 use Rattle.calls.proofs.Sparse.{sparse}
 
 unfoldable pub given : Module

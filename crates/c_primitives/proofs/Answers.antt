@@ -1,14 +1,13 @@
 -- What an entry point answers where the sizes are right, and where one is wrong. Assumes nothing.
-use mathlib.Core.Path.{_≡_, refl, ap, _∙_}
+use mathlib.Core.Path.{_≡_, refl, _∙_}
 use mathlib.Core.Bool.{Bool, true, false, _&&_, cond}
-use mathlib.Core.List.{List, _++_, append-nil}
-use Prim.Native.Nat.{ℕ, _+_, _≤_}
-use native.Mathlib.Omega.{arith}
+use mathlib.Core.List.{List}
+use Prim.Native.Nat.{ℕ}
 use borrow.Author.Tests.{eq-eqb, ne-eqb}
 use lib.Dec.{eqb}
-use lib.ListN.{length, drop-of-length-le}
-use lib.Seq.{take-all}
+use lib.ListN.{length}
 use Rattle.words.specs.Bytes.{part, put}
+use Rattle.words.proofs.Parts.{copy-all}
 use Rattle.c_primitives.specs.Primitives.{code}
 
 pub refused : {right : Bool} (new out : List ℕ) → right ≡ false → (1 ≡ code right) × (out ≡ cond right new out)
@@ -24,14 +23,6 @@ wrong {n} {m} rest h = simp (ne-eqb n m h)
 pub right-then : {n m : ℕ} {rest answer : Bool} → n ≡ m → rest ≡ answer → (eqb n m && rest) ≡ answer
 right-then {n} {m} h e = simp (eq-eqb n m h) e
 
--- all of a list in the place of another of the same length
-pub stored : (new out : List ℕ) → length new ≡ length out → put out 0 new ≡ new
-stored new out h =
-    let none : length out ≤ 0 + length new = omega arith in
-    ap (λ (l : List ℕ). new ++ l) (drop-of-length-le out none) ∙ append-nil new
-
 pub copied : {after want : List ℕ} (n : ℕ) (new out : List ℕ) → length new ≡ n → length out ≡ n
     → after ≡ put out 0 (part new 0 n) → new ≡ want → after ≡ want
-copied n new out hn ho e same =
-    let whole : length new ≤ n = omega arith in
-    e ∙ ap (put out 0) (take-all n new whole) ∙ stored new out (omega arith) ∙ same
+copied n new out hn ho e same = e ∙ copy-all n out new ho hn ∙ same

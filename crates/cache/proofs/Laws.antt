@@ -1,6 +1,6 @@
 -- Laws of the cache: what a written slot and the other slots hold, what a formed cache is, and which nodes it holds.
 -- Assumes nothing.
-use mathlib.Core.Path.{_≡_, refl, sym, ap, ap₂, _∙_}
+use mathlib.Core.Path.{_≡_, refl, sym, ap, ap₂, _∙_, subst}
 use mathlib.Core.Logic.{_⊎_, inl, inr}
 use mathlib.Core.Bool.{Bool, true, false, _&&_, _||_, not, cond, and-eq-true-iff, and-false, false≢true}
 use mathlib.Core.List.{List, _∷_, _++_}
@@ -15,10 +15,11 @@ use borrow.Author.Tests.{eq-eqb, ne-eqb, eqb-true, leb-true, le-leb}
 use Rattle.words.specs.Bytes.{digits, fromLe, toLe, part, put}
 use Rattle.words.proofs.Order.{lt-eq-gt}
 use Rattle.words.proofs.Digits.{Below, below-cons, below-append, below-take, below-drop, below-digits, length-digits, number-exact}
-use Rattle.words.proofs.Parts.{part-part, length-put, below-put}
+use Rattle.words.proofs.Parts.{part-part, length-part, length-put, below-put}
 use Rattle.words.proofs.Puts.{getD-part, part-put-same, part-put-before, part-put-after}
 use Rattle.words.proofs.Zeros.{below-zeros, number-zeros}
-use Rattle.memory_map.specs.Map.{slots, cellOf, nodes}
+use Rattle.memory_map.specs.Map.{slots, cellOf, nodes, arrayLength, InMap, Item}
+use Rattle.memory_map.proofs.Laws.{cell-within}
 use Rattle.slot_map.specs.Slots.{cacheLength, slotOf, levelOf, belongs}
 use Rattle.memory_map.specs.Map.Item.{node}
 use Rattle.slot_map.proofs.Laws.{slot-within, level-slot, belongs-node}
@@ -95,10 +96,32 @@ module _ (h : ℕ) (c : List ℕ) (sized : length c ≡ cacheLength h) (s : ℕ)
   below-with p q r =
       below-put c (73 * s) (toLe 8 o ++ (d ∷ b)) r (below-append (toLe 8 o) (d ∷ b) (below-digits 256 8 o (lit< tt)) (below-cons p q))
 
+-- ---- lengths and bytes of contents
+
+pub content-length : (c : List ℕ) (s : ℕ) → 73 * s + 73 ≤ length c → length (content c s) ≡ 64
+unfolding content
+content-length c s p = length-part c (73 * s + 9) 64 (omega arith)
+
+pub content-below : (c : List ℕ) (s : ℕ) → Below 256 c → Below 256 (content c s)
+unfolding content
+content-below c s b = below-take 64 _ (below-drop (73 * s + 9) c b)
+
+pub cell-length : (h : ℕ) (a : List ℕ) (x : Item) → length a ≡ arrayLength h → InMap h x → length (cellContent a (cellOf h x)) ≡ 64
+unfolding cellContent arrayLength
+cell-length h a x e m = length-part a (72 * cellOf h x) 64 (omega (arith, cell-within h x m))
+
+pub cell-below : (a : List ℕ) (n : ℕ) → Below 256 a → Below 256 (cellContent a n)
+unfolding cellContent
+cell-below a n b = below-take 64 _ (below-drop (72 * n) a b)
+
+pub slot-room : (h s : ℕ) (c : List ℕ) → length c ≡ cacheLength h → s < slots h → 73 * s + 73 ≤ length c
+unfolding cacheLength
+slot-room h s c e p = omega arith
+
 -- ---- formed
 
 -- p at s, s + 1, .., n of them
-abbrev all : (ℕ → Bool) → ℕ → ℕ → Bool
+abbrev pub all : (ℕ → Bool) → ℕ → ℕ → Bool
 all p s zero = true
 all p s (suc n) = p s && all p (suc s) n
 
@@ -118,13 +141,13 @@ at-all p s (suc n) f =
     and-eq-true-iff (p s) (all p (suc s) n) .1 (f s (omega arith) (omega arith), at-all p (suc s) n (λ t l u. f t (omega arith) (omega arith)))
 
 -- a slot is in place where it is empty or its owner belongs there
-abbrev placed : ℕ → (ℕ → ℕ) → ℕ → Bool
+abbrev pub placed : ℕ → (ℕ → ℕ) → ℕ → Bool
 placed h f t = eqb (f t) 0 || belongs h t (f t)
 
-abbrev empty : (ℕ → ℕ) → ℕ → Bool
+abbrev pub empty : (ℕ → ℕ) → ℕ → Bool
 empty f t = eqb (f t) 0
 
-abbrev flagged : List ℕ → ℕ → Bool
+abbrev pub flagged : List ℕ → ℕ → Bool
 flagged c t = leb (dirty c t) (cond (eqb (owner c t) 0) 0 1)
 
 stray-all : (h : ℕ) (f : ℕ → ℕ) (s n : ℕ) → isNothing (stray h s (from f s n)) ≡ all (placed h f) s n
@@ -137,7 +160,7 @@ stray-all h f s (suc n) = go (placed h f s) (stray-all h f (suc s) n)
     go true e = e
     go false e = refl
 
-any-all : (f : ℕ → ℕ) (s n : ℕ) → anyOwner (from f s n) ≡ not (all (empty f) s n)
+pub any-all : (f : ℕ → ℕ) (s n : ℕ) → anyOwner (from f s n) ≡ not (all (empty f) s n)
 unfolding anyOwner from
 any-all f s zero = refl
 any-all f s (suc n) = go (empty f s) (any-all f (suc s) n)
@@ -147,7 +170,7 @@ any-all f s (suc n) = go (empty f s) (any-all f (suc s) n)
     go true e = e
     go false e = refl
 
-flags-all : (c : List ℕ) (s n : ℕ) → flagsFormed c s n ≡ all (flagged c) s n
+pub flags-all : (c : List ℕ) (s n : ℕ) → flagsFormed c s n ≡ all (flagged c) s n
 unfolding flagsFormed
 flags-all c s zero = refl
 flags-all c s (suc n) = ap (λ (b : Bool). flagged c s && b) (flags-all c (suc s) n)
@@ -173,7 +196,7 @@ unfolding isNothing
 nothing Nothing e = refl
 nothing (At s) e = absurd (false≢true e)
 
-bad-all : (h : ℕ) (f : ℕ → ℕ) → isNothing (badSlot h (from f 0 (slots h)))
+pub bad-all : (h : ℕ) (f : ℕ → ℕ) → isNothing (badSlot h (from f 0 (slots h)))
     ≡ (all (placed h f) 0 (slots h) && not (not (all (empty f) 0 (slots h)) && eqb (f (topSlot h)) 0))
 unfolding badSlot missingTop
 bad-all h f =
@@ -345,6 +368,18 @@ pub slot-holds : (h : ℕ) (c : List ℕ) (s i : ℕ) → Formed h c → s < slo
 slot-holds h c s i f p e =
     let place = belongs-node h s i (f .owners .belong s i p e) in
     (place .0, (place .1, owner-holds c (levelOf s) i (ap (owner c) (place .1) ∙ e)))
+
+-- a dirty slot of a formed cache has an owner, a node of its level
+pub dirty-owner : (h : ℕ) (c : List ℕ) (l i : ℕ) → Formed h c → l ≤ h → dirty c (slotOf l i) ≡ 1
+    → (0 < owner c (slotOf l i)) × InMap h (node l (owner c (slotOf l i) - 1))
+unfolding InMap
+dirty-owner h c l i f q d = go (owner c (slotOf l i)) refl
+  where
+    go : (o : ℕ) → owner c (slotOf l i) ≡ o → (0 < o) × ((l ≤ h) × (o - 1 < nodes h l))
+    go zero e = absurd (omega (arith, f .clean (slotOf l i) (slot-within h l i q) e))
+    go (suc j) e =
+        let at = slot-holds h c (slotOf l i) j f (slot-within h l i q) e .0 in
+        (omega arith, (q, omega (arith, subst (λ (k : ℕ). j < nodes h k) (level-slot l i) at)))
 
 -- a formed cache with a filled slot holds the top
 pub top-cached : (h : ℕ) (c : List ℕ) (s i : ℕ) → Formed h c → s < slots h → owner c s ≡ suc i → holds c h 0 ≡ true

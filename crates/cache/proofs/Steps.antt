@@ -2,7 +2,7 @@
 use mathlib.Core.Path.{_≡_, sym, ap, ap₂, _∙_, subst, fun-ext}
 use mathlib.Core.Bool.{Bool, true, false, _&&_, _||_, not, cond}
 use mathlib.Core.List.{List, [], _∷_, _++_}
-use Prim.Native.Nat.{ℕ, zero, suc, _+_, _-_, _*_, _<_, _≤_}
+use Prim.Native.Nat.{ℕ, zero, suc, _+_, _*_, _<_, _≤_}
 use native.Mathlib.Nat.{add-zero, zero-add, mul-suc, mul-le-mul-left, le-refl}
 use native.Mathlib.Numerals.{add-one}
 use native.Mathlib.Omega.{arith}
@@ -16,7 +16,7 @@ use Rattle.slot_map.specs.Slots.{belongs}
 use Rattle.memory_map.specs.Map.Item.{shadow}
 use Rattle.words.specs.Bytes.{fromLe, part}
 use Rattle.slot_map.proofs.Laws.{slot-within}
-use Rattle.cache.specs.Cache.{owner, dirty, from, topSlot, stray, anyOwner, missingTop, orElse, badSlot, flagsFormed, shadowOwner, cacheOwners, isNothing, formed}
+use Rattle.cache.specs.Cache.{from, topSlot, stray, anyOwner, missingTop, orElse, badSlot, shadowOwner}
 use Rattle.cache.specs.declared.Found.{Found}
 use Rattle.cache.specs.declared.Found.the-variants.{Nothing, At}
 
@@ -74,17 +74,6 @@ pub any-end : (os : List ℕ) (n s : ℕ) → n ≤ s → anyOwner (drop s (take
 unfolding anyOwner
 any-end os n s p = rw (none os n s p)
 
-pub flags-turn : (c : List ℕ) (n s : ℕ) (b : Bool) → s < n → leb (dirty c s) (cond (eqb (owner c s) 0) 0 1) ≡ b
-    → flagsFormed c s (n - s) ≡ (b && flagsFormed c (s + 1) (n - (s + 1)))
-unfolding flagsFormed
-flags-turn c n s b p e =
-    let left : n - s ≡ suc (n - (s + 1)) = omega arith in
-    ap (flagsFormed c s) left ∙ ap₂ (λ (t : Bool) (k : ℕ). t && flagsFormed c k (n - (s + 1))) e (sym (add-one s))
-
-pub flags-end : (c : List ℕ) (n s : ℕ) → n ≤ s → flagsFormed c s (n - s) ≡ true
-unfolding flagsFormed
-flags-end c n s p = ap (flagsFormed c s) (let none : n - s ≡ 0 = omega arith in none)
-
 -- what is asked of dirty in an empty slot, and in a filled one
 pub flag-empty : (o d : ℕ) → o ≡ 0 → leb d (cond (eqb o 0) 0 1) ≡ leb d 0
 flag-empty o d e = ap (λ (b : Bool). leb d (cond b 0 1)) (eq-eqb o 0 e)
@@ -114,18 +103,9 @@ pub owners-are : (f g : ℕ → ℕ) (h n : ℕ) (os : List ℕ) → n ≡ slots
 owners-are f g h n os e same p =
     subst (λ (k : ℕ). take k os ≡ from g 0 k) e (p ∙ ap (λ (k : ℕ → ℕ). from k 0 n) (fun-ext same))
 
--- a slot's owner and shadow, as they lie one step after the other
-pub owner-step : (c : List ℕ) (s : ℕ) → fromLe (part c (0 + 73 * s) 8) ≡ owner c s
-unfolding owner
-owner-step c s = ap (λ (k : ℕ). fromLe (part c k 8)) (zero-add (73 * s))
-
+-- a slot's shadow, as they lie one step after the other
 pub shadow-step : (h : ℕ) (a : List ℕ) (n s : ℕ) → n ≡ cellOf h (shadow 0) → fromLe (part a (72 * n + 72 * s) 8) ≡ shadowOwner h a s
 unfolding shadowOwner
 shadow-step h a n s e =
     let same : 72 * n + 72 * s ≡ 72 * cellOf h (shadow s) = omega (arith, shadow-after h s) in
     ap (λ (k : ℕ). fromLe (part a k 8)) same
-
--- `formed` by the slot that `bad_slot` finds
-pub formed-by : (h : ℕ) (c : List ℕ) (f : Found) → badSlot h (cacheOwners h c) ≡ f → (isNothing f && flagsFormed c 0 (slots h)) ≡ formed h c
-unfolding formed
-formed-by h c f e = sym (ap (λ (g : Found). isNothing g && flagsFormed c 0 (slots h)) e)

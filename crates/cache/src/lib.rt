@@ -1,5 +1,6 @@
 // The cache's slots, the shadow of their owners in the array, and whether each is formed.
 ghost use mathlib.Core.Path.{_≡_};
+ghost use mathlib.Core.Bool.{not};
 ghost use Prim.Native.Nat.{_+_, _*_, _<_, _≤_};
 ghost use lib.ListN.{length, take};
 ghost use Rattle.words.specs.Bytes.{fromLe, part};
@@ -11,11 +12,11 @@ ghost use Rattle.cache.specs.Cache.{
   stray,
   anyOwner,
   badSlot,
-  flagsFormed,
   owner as ownerOf,
   dirty as dirtyOf,
   formed as isFormed,
 };
+ghost use Rattle.cache.specs.Fits.{fits, allFit};
 use memory_map::slots;
 use words::load64;
 
@@ -89,8 +90,8 @@ fn any_owner(n: usize, owners: [u64; 10]) -> bool
     false
 }
 
-// The slot that keeps owners from being formed.
-fn bad_slot(h: usize, owners: [u64; 10]) -> Found
+// The slot that keeps owners from being formed; of the shadow's, refusal 27 tells it.
+pub fn bad_slot(h: usize, owners: [u64; 10]) -> Found
     requires { ⌜ (1 ≤ h) × (h ≤ 3) ⌝ }
     ensures { λ r. ⌜ r ≡ badSlot h (take (slotsOf h) owners) ⌝ }
 {
@@ -108,19 +109,48 @@ fn bad_slot(h: usize, owners: [u64; 10]) -> Found
     Found::Nothing
 }
 
-// Whether each dirty flag is 0 or 1, and 0 in an empty slot.
-fn flags_formed(cache: &[u8], n: usize) -> bool
+// Whether a slot of level l, which has so many nodes, is empty and clean, or has one of them that may take it.
+fn slot_fits(cache: &[u8], l: usize, nodes: usize, s: usize) -> bool
+    requires { ⌜ (l ≤ 3) × (73 * s + 73 ≤ length (now cache)) ⌝ }
+    ensures { λ r. ⌜ r ≡ fits l nodes (now (cache .entry)) s ⌝ }
+{
+    let o = owner(cache, s) as usize;
+    let d = dirty(cache, s);
+    if o == 0 {
+        return d == 0;
+    }
+    if 1 < d {
+        return false;
+    }
+    if nodes < o {
+        return false;
+    }
+    slot_map::slot_of(l, o - 1) == s
+}
+
+// The same of n slots from a first one on.
+fn slots_fit(cache: &[u8], l: usize, nodes: usize, first: usize, n: usize) -> bool
+    requires { ⌜ (l ≤ 3) × ((n ≤ 4) × (73 * (first + n) ≤ length (now cache))) ⌝ }
+    ensures { λ r. ⌜ r ≡ allFit l nodes (now (cache .entry)) first n ⌝ }
+{
+    let mut k = 0;
+    while k < n {
+        if !slot_fits(cache, l, nodes, first + k) {
+            return false;
+        }
+        k += 1;
+    }
+    true
+}
+
+// Whether the n first slots are empty.
+fn all_empty(cache: &[u8], n: usize) -> bool
     requires { ⌜ 73 * n ≤ length (now cache) ⌝ }
-    ensures { λ r. ⌜ r ≡ flagsFormed (now (cache .entry)) 0 n ⌝ }
+    ensures { λ r. ⌜ r ≡ not (anyOwner (from (ownerOf (now (cache .entry))) 0 n)) ⌝ }
 {
     let mut s = 0;
     while s < n {
-        let d = dirty(cache, s);
-        if owner(cache, s) == 0 {
-            if d != 0 {
-                return false;
-            }
-        } else if 1 < d {
+        if owner(cache, s) != 0 {
             return false;
         }
         s += 1;
@@ -128,24 +158,31 @@ fn flags_formed(cache: &[u8], n: usize) -> bool
     true
 }
 
-// Whether the cache is formed: refusal 23 is that it is not.
+// Whether the cache is formed: refusal 23 is that it is not. The slots are gone through level by level.
 pub fn formed(h: usize, cache: &[u8]) -> bool
     requires { ⌜ (1 ≤ h) × ((h ≤ 3) × (length (now cache) ≡ cacheLength h)) ⌝ }
     ensures { λ r. ⌜ r ≡ isFormed h (now (cache .entry)) ⌝ }
 {
-    let n = slots(h);
-    let owners = owners_at(cache, 0, 73, n);
-    if let Found::At(_) = bad_slot(h, owners) {
+    if !slots_fit(cache, 0, memory_map::nodes(h, 0), 0, 4) {
         return false;
     }
-    flags_formed(cache, n)
+    let mut l = 0;
+    while l < h {
+        l += 1;
+        if !slots_fit(cache, l, memory_map::nodes(h, l), 2 + 2 * l, 2) {
+            return false;
+        }
+    }
+    if owner(cache, slot_map::slot_of(h, 0)) != 0 {
+        return true;
+    }
+    all_empty(cache, slots(h))
 }
 
-// The slot that keeps the shadow from being formed, which refusal 27 tells.
-pub fn shadow_bad_slot(h: usize, array: &[u8]) -> Found
+// The owners that the shadow lists.
+pub fn shadow_owners(h: usize, array: &[u8]) -> [u64; 10]
     requires { ⌜ (1 ≤ h) × ((h ≤ 3) × (length (now array) ≡ arrayLength h)) ⌝ }
-    ensures { λ r. ⌜ r ≡ badSlot h (shadowOwners h (now (array .entry))) ⌝ }
+    ensures { λ r. ⌜ take (slotsOf h) r ≡ shadowOwners h (now (array .entry)) ⌝ }
 {
-    let owners = owners_at(array, 72 * memory_map::shadow_cell(h, 0), 72, slots(h));
-    bad_slot(h, owners)
+    owners_at(array, 72 * memory_map::shadow_cell(h, 0), 72, slots(h))
 }

@@ -22,7 +22,10 @@ use Rattle.tag.specs.Tag.{nodeTag}
 use Rattle.journal.specs.Journal.{Store, storeAll, made, pendingStores, batchStores}
 use Rattle.journal.proofs.Laws.{made-all, less-cut, cut-made}
 use Rattle.calls.specs.Path.{Loaded, loaded, differs}
-use Rattle.calls.specs.Calls.{Module, Called, mediaOf, withMedia, refuse, storing, answered, refusedRead, accessRefusal, lineMinor, sideOk, lineText, readLoaded, readPath, pathOf, readJudged, read, writeStores, writtenCache, writeLoaded, writePath, writeJudged, write, Rebuilt, rebuilt, damaged, rebuildBlocks, rebuildNodes, recoveryRefusal, recoverRoot, recoverRebuilt, recoverShadow, recoverMedia, recoverJudged, recover}
+use Rattle.calls.specs.Call.{Module, Called, mediaOf, withMedia, refuse, storing, accessRefusal, pathOf}
+use Rattle.calls.specs.Read.{answered, refusedRead, lineMinor, sideOk, lineText, readLoaded, readPath, readJudged, read}
+use Rattle.calls.specs.Write.{writeStores, writtenCache, writeLoaded, writePath, writeJudged, write}
+use Rattle.calls.specs.Recovery.{Rebuilt, rebuilt, damaged, rebuildBlocks, rebuildNodes, recoveryRefusal, recoverRoot, recoverRebuilt, recoverShadow, recoverMedia, recoverJudged, recover}
 use Rattle.calls.specs.History.{NotCut}
 
 -- a call as a function of its allowance

@@ -8,7 +8,8 @@ use lib.ListN.{length}
 use Rattle.words.proofs.Digits.{Below}
 use Rattle.control.specs.Control.{Cell, depth}
 use Rattle.calls.specs.Path.{loaded}
-use Rattle.calls.specs.Calls.{Module, pathOf, accessRefusal, writeBatch}
+use Rattle.calls.specs.Call.{Module, pathOf, accessRefusal}
+use Rattle.calls.specs.Write.{writeBatch}
 use Rattle.call_laws.proofs.Judged.{access-accepted, head-of}
 use Rattle.call_laws.proofs.Kept.{Bytes, path-few, batch-bound}
 

@@ -11,11 +11,12 @@ use Rattle.memory_map.specs.Map.{lines, nodes, levelStart, shadowStart, shadowC
 use Rattle.counter.proofs.Laws.{length-counterBlock, below-counterBlock}
 use Rattle.control.specs.Control.{controlLength, mark, freshControl}
 use Rattle.cache.proofs.Laws.{length-empty, below-empty}
-use Rattle.calls.specs.Calls.{Module, Called, refuse, countsFrom, freshNode, freshRoot, nodeCells, levelCells, freshArray, formatted, format, formatRefusal}
+use Rattle.calls.specs.Call.{Module, Called, refuse}
+use Rattle.calls.specs.Format.{countsFrom, freshNode, freshRoot, nodeCells, levelCells, freshArray, formatted, format, formatRefusal}
 use Rattle.call_laws.proofs.Judged.{Formattable, format-accepted}
 use Rattle.call_laws.proofs.Loads.{zeros-bytes}
 use Rattle.call_laws.proofs.Kept.{Bytes, Kept, kept-same}
-use Rattle.call_laws.proofs.Rebuilt.{tags-length, tags-bytes}
+use Rattle.call_laws.proofs.Tags.{tags-length, tags-bytes}
 
 -- ---- the fresh tree
 

@@ -1,18 +1,20 @@
 -- What holds of the inputs of a call that is not refused for them. Assumes nothing.
-use mathlib.Core.Path.{_≡_, refl}
-use mathlib.Core.Bool.{Bool, true, false, not, _&&_, and-eq-true-iff}
+use mathlib.Core.Path.{_≡_, refl, ap}
+use mathlib.Core.Bool.{Bool, true, false, not, _&&_, cond, and-eq-true-iff}
 use mathlib.Core.List.{List, [], _∷_, _++_}
 use Prim.Native.Nat.{ℕ, suc, _≤_, _<_}
 use native.Mathlib.Omega.{arith}
 use lib.Dec.{eqb, leb}
 use lib.ListN.{length}
-use borrow.Author.Tests.{not-false, eqb-true, leb-true, leb-false, ltb-false}
-use Rattle.memory_map.specs.Map.{pages, lines, pageOf, arrayLength}
+use borrow.Author.Tests.{eq-eqb, ne-eqb, lt-leb, le-ltb, not-false, eqb-true, leb-true, leb-false, ltb-false}
+use Rattle.memory_map.specs.Map.{lines, arrayLength}
 use Rattle.slot_map.specs.Slots.{cacheLength}
 use Rattle.control.specs.Control.{controlLength, depth, count, valid, pending}
 use Rattle.control.proofs.Laws.{Head, valid-parts}
 use Rattle.cache.specs.Cache.{formed}
-use Rattle.calls.specs.Calls.{Module, judged, lengthTests, openingTests, formatRefusal, recoveryRefusal, accessRefusal}
+use Rattle.calls.specs.Call.{Module, judged, lengthTests, openingTests, entryTests, entryRefusal, accessRefusal, unlike}
+use Rattle.calls.specs.Recovery.{recoveryRefusal}
+use Rattle.calls.specs.Format.{formatRefusal}
 
 pub record Passed (t : Bool) (xs : List (Bool × ℕ)) : Type 0 where
   pub test : t ≡ false
@@ -26,6 +28,35 @@ passed false n xs e = record { test = refl; rest = e }
 
 pub alike : (a b : ℕ) → not (eqb a b) ≡ false → a ≡ b
 alike a b e = eqb-true a b (not-false (eqb a b) e)
+
+-- the same of the code that judges: the test that refuses, one that does not, and the end
+pub here : (t : Bool) (n : ℕ) (xs : List (Bool × ℕ)) → t ≡ true → n ≡ judged ((t, n) ∷ xs)
+unfolding judged
+here t n xs e = rw e
+
+pub on : (t : Bool) (n : ℕ) (xs : List (Bool × ℕ)) {r : ℕ} → t ≡ false → r ≡ judged xs → r ≡ judged ((t, n) ∷ xs)
+unfolding judged
+on t n xs e f = rw e f
+
+pub end : 0 ≡ judged []
+unfolding judged
+end = refl
+
+pub unlike-true : {a b : ℕ} → (a ≡ b → ⊥) → unlike a b ≡ true
+unlike-true {a} {b} e = ap not (ne-eqb a b e)
+
+pub unlike-false : {a b : ℕ} → a ≡ b → unlike a b ≡ false
+unlike-false {a} {b} e = ap not (eq-eqb a b e)
+
+-- a refusal among the first tests is that of all
+pub judged-front : (xs ys : List (Bool × ℕ)) {n : ℕ} → n ≡ judged xs → (n ≡ 0 → ⊥) → n ≡ judged (xs ++ ys)
+unfolding judged
+judged-front [] ys e p = absurd (p e)
+judged-front (x ∷ xs) ys {n} e p = go (x .0) e (λ f. judged-front xs ys f p)
+  where
+    go : (t : Bool) → n ≡ cond t (x .1) (judged xs) → (n ≡ judged xs → n ≡ judged (xs ++ ys)) → n ≡ cond t (x .1) (judged (xs ++ ys))
+    go true q f = q
+    go false q f = f q
 
 -- lengths that fit a depth
 pub record Sized (h : ℕ) (m : Module) : Type 0 where
@@ -57,7 +88,20 @@ pub recovery-opened : (keys : List ℕ) (m : Module) → recoveryRefusal keys m 
 unfolding recoveryRefusal
 recovery-opened keys m e = opened keys m [] e .0
 
--- and 7 6 22 23
+-- where the first tests pass, the others judge
+pub opened-on : {keys : List ℕ} {m : Module} (ys : List (Bool × ℕ)) {r : ℕ} → Opened keys m → r ≡ judged ys → r ≡ judged (openingTests keys m ++ ys)
+opened-on ys o e =
+    on _ _ _ (unlike-false (o .keys48)) (on _ _ _ (unlike-false (o .record664)) (on _ _ _ (ap not (o .right))
+    (on _ _ _ (unlike-false (o .fits .array)) (on _ _ _ (unlike-false (o .fits .cache)) e))))
+
+-- and 7 6 22
+pub record Entered (keys : List ℕ) (line : ℕ) (b : List ℕ) (m : Module) : Type 0 where
+  pub opening : Opened keys m
+  pub buffer : length b ≡ 64
+  pub inside : line < lines (depth (m .control))
+  pub idle : count (m .control) ≡ 0
+
+-- and 23
 pub record Accepted (keys : List ℕ) (line : ℕ) (b : List ℕ) (m : Module) : Type 0 where
   pub opening : Opened keys m
   pub buffer : length b ≡ 64
@@ -65,21 +109,58 @@ pub record Accepted (keys : List ℕ) (line : ℕ) (b : List ℕ) (m : Module) :
   pub idle : count (m .control) ≡ 0
   pub shaped : formed (depth (m .control)) (m .cache) ≡ true
 
-pub access-accepted : (keys : List ℕ) (line : ℕ) (b : List ℕ) (m : Module) → accessRefusal keys line b m ≡ 0 → Accepted keys line b m
-unfolding accessRefusal
-access-accepted keys line b m e =
-    let o = opened keys m _ e in
-    let p = passed (not (eqb (length b) 64)) 6 _ (o .1) in
-    let q = passed (leb (lines (depth (m .control))) line) 5 _ (p .rest) in
-    let r = passed (pending (m .control)) 21 _ (q .rest) in
-    let s = passed (not (formed (depth (m .control)) (m .cache))) 22 [] (r .rest) in
-    record {
-      opening = o .0;
-      buffer = alike _ _ (p .test);
-      inside = leb-false _ _ (q .test);
-      idle = omega (arith, ltb-false 0 (count (m .control)) (r .test));
-      shaped = not-false _ (s .test);
-    }
+module _ (keys : List ℕ) (line : ℕ) (b : List ℕ) (m : Module) where
+  entered : (xs : List (Bool × ℕ)) → judged (entryTests keys line b m ++ xs) ≡ 0 → Entered keys line b m × (judged xs ≡ 0)
+  entered xs e =
+      let o = opened keys m _ e in
+      let p = passed (not (eqb (length b) 64)) 6 _ (o .1) in
+      let q = passed (leb (lines (depth (m .control))) line) 5 _ (p .rest) in
+      let r = passed (pending (m .control)) 21 xs (q .rest) in (
+        record {
+          opening = o .0;
+          buffer = alike _ _ (p .test);
+          inside = leb-false _ _ (q .test);
+          idle = omega (arith, ltb-false 0 (count (m .control)) (r .test));
+        },
+        r .rest,
+      )
+
+  pub entry-passed : entryRefusal keys line b m ≡ 0 → Entered keys line b m
+  unfolding entryRefusal
+  entry-passed e = entered [] e .0
+
+  pub access-accepted : accessRefusal keys line b m ≡ 0 → Accepted keys line b m
+  unfolding accessRefusal
+  access-accepted e =
+      let p = entered _ e in
+      let q = passed (not (formed (depth (m .control)) (m .cache))) 22 [] (p .1) in
+      record {
+        opening = p .0 .opening;
+        buffer = p .0 .buffer;
+        inside = p .0 .inside;
+        idle = p .0 .idle;
+        shaped = not-false _ (q .test);
+      }
+
+  -- a refusal before 23
+  pub entry-refused : {n : ℕ} → n ≡ entryRefusal keys line b m → (n ≡ 0 → ⊥) → n ≡ accessRefusal keys line b m
+  unfolding entryRefusal accessRefusal
+  entry-refused e p = judged-front (entryTests keys line b m) _ e p
+
+  -- past the tests before it: 23, or none
+  module _ (p : Entered keys line b m) where
+    entered-on : (ys : List (Bool × ℕ)) {r : ℕ} → r ≡ judged ys → r ≡ judged (entryTests keys line b m ++ ys)
+    entered-on ys e =
+        opened-on _ (p .opening) (on _ _ _ (unlike-false (p .buffer)) (on _ _ _ (lt-leb _ line (p .inside))
+        (on _ _ _ (le-ltb 0 (count (m .control)) (omega (arith, p .idle))) e)))
+
+    pub not-formed : formed (depth (m .control)) (m .cache) ≡ false → 23 ≡ accessRefusal keys line b m
+    unfolding accessRefusal
+    not-formed e = entered-on _ (here _ _ _ (ap not e))
+
+    pub is-formed : formed (depth (m .control)) (m .cache) ≡ true → 0 ≡ accessRefusal keys line b m
+    unfolding accessRefusal
+    is-formed e = entered-on _ (on _ _ _ (ap not e) end)
 
 pub record Formattable (keys : List ℕ) (h : ℕ) (m : Module) : Type 0 where
   pub low : 1 ≤ h
@@ -106,7 +187,3 @@ format-accepted keys h m e =
 -- the depth of a valid control record
 pub head-of : (keys : List ℕ) (m : Module) → Opened keys m → Head (m .control)
 head-of keys m o = valid-parts (o .right) .0
-
-pub page-inside : (h line : ℕ) → line < lines h → pageOf line < pages h
-unfolding lines
-page-inside h line p = omega arith

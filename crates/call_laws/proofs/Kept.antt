@@ -10,31 +10,33 @@ use lib.ListN.{length, replicate, length-append, length-replicate}
 use borrow.Author.Tests.{lt-ltb}
 use Rattle.words.specs.Bytes.{toLe}
 use Rattle.words.proofs.Digits.{Below, below-append, below-cons, below-digits, length-digits}
-use Rattle.memory_map.specs.Map.{cells, arrayLength, pages, pageOf, placeOf, nodes, InMap, cellOf}
+use Rattle.memory_map.specs.Map.{cells, arrayLength, pages, pageOf, placeOf, nodes, InMap, cellOf, onPath}
 use Rattle.slot_map.specs.Slots.{cacheLength, slotOf}
 use Rattle.words.proofs.Parts.{length-put, below-put}
 use Rattle.tag.specs.Tag.{nodeTag, dataTag}
 use Rattle.memory_map.specs.Map.Item.{line}
-use Rattle.memory_map.proofs.Laws.{cells-small, cell-within}
+use Rattle.memory_map.proofs.Laws.{cells-small, cell-within, page-inside}
 use Rattle.slot_map.proofs.Laws.{slot-within}
 use Rattle.control.specs.Control.{Cell, controlLength, depth, root, inMap}
 use Rattle.cache.specs.Cache.{formed, content, cellContent}
-use Rattle.cache.proofs.Laws.{formed-facts, length-with, below-with}
+use Rattle.cache.proofs.Laws.{formed-facts, length-with, below-with, content-length, content-below, cell-length, cell-below, slot-room}
 use Rattle.journal.specs.Journal.{Store, storeAll, made, isCut, batchStores}
 use Rattle.journal.proofs.Each.{Each, none, more, each-append}
 use Rattle.journal.proofs.Kept.{Within, within-batch, made-kept, Formed as Media·Formed}
 use Rattle.journal.proofs.Queue.{Whole}
 use Rattle.answer.specs.declared.Answer.{Answer}
 use Rattle.answer.specs.declared.Answer.the-variants.{Done, Blank, Cut}
-use Rattle.calls.specs.Path.{Loaded, loaded, differs, onPath, renewed, renewPath, nodeCell}
+use Rattle.calls.specs.Path.{Loaded, loaded, differs, renewed, renewPath, nodeCell}
 use Rattle.counter.specs.Counter.{major}
 use Rattle.counter.proofs.Laws.{length-withMinor, below-withMinor}
 use Rattle.pad.specs.Pad.{pad, xorBytes}
 use Rattle.pad.proofs.Nonce.{length-pad, below-pad}
 use Rattle.pad.proofs.Xor.{length-xor, below-xor}
-use Rattle.calls.specs.Calls.{Module, Called, Reading, mediaOf, withMedia, refuse, storing, answered, pageBlock, lineMinor, newMinor, newBlock, stopLoss, refusedRead, sideBytes, sideOk, lineText, readLoaded, readPath, readJudged, read, dataCell, writeBatch, writeStores, writtenCache, writeLoaded, writePath, pathOf, writeJudged, write, accessRefusal}
-use Rattle.call_laws.proofs.Judged.{Accepted, access-accepted, head-of, page-inside}
-use Rattle.call_laws.proofs.Loads.{Sound, Fit, Loads, LoadsIf, path-loads, content-length, content-below, cell-length, cell-below, slot-room, sound-node, zeros-bytes}
+use Rattle.calls.specs.Call.{Module, Called, mediaOf, withMedia, refuse, storing, pathOf, accessRefusal}
+use Rattle.calls.specs.Read.{Reading, answered, pageBlock, lineMinor, refusedRead, sideBytes, sideOk, lineText, readLoaded, readPath, readJudged, read}
+use Rattle.calls.specs.Write.{newMinor, newBlock, stopLoss, dataCell, writeBatch, writeStores, writtenCache, writeLoaded, writePath, writeJudged, write}
+use Rattle.call_laws.proofs.Judged.{Accepted, access-accepted, head-of}
+use Rattle.call_laws.proofs.Loads.{Sound, Fit, Loads, LoadsIf, path-loads, sound-node, zeros-bytes}
 
 -- the buffers of a module hold bytes
 pub record Bytes (m : Module) : Type 0 where

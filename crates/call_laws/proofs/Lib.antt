@@ -1,7 +1,13 @@
 pub mod Allowance
+pub mod Apart
 pub mod Bound
 pub mod Fresh
+pub mod FreshCells
 pub mod Judged
 pub mod Kept
+pub mod Loading
 pub mod Loads
 pub mod Rebuilt
+pub mod Staged
+pub mod Storing
+pub mod Tags

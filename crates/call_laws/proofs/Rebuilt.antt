@@ -6,9 +6,9 @@ use mathlib.Core.Option.{Option, none, some}
 use Prim.Native.Nat.{ℕ, zero, suc, _+_, _-_, _*_, _/_, _≤_, _<_}
 use native.Mathlib.Omega.{arith}
 use lib.Dec.{eqb, lit<}
-use lib.ListN.{length, take, drop, getD, length-append, length-take, length-drop}
-use Rattle.words.specs.Bytes.{toLe, part}
-use Rattle.words.proofs.Digits.{Below, below-nil, below-append, below-digits, length-digits}
+use lib.ListN.{length, take, drop, getD, length-take, length-drop}
+use Rattle.words.specs.Bytes.{part}
+use Rattle.words.proofs.Digits.{Below}
 use Rattle.words.proofs.Puts.{getD-part}
 use Rattle.memory_map.specs.Map.{cells, slots, cellOf}
 use Rattle.slot_map.specs.Slots.{cacheLength, levelOf}
@@ -26,9 +26,10 @@ use Rattle.journal.specs.Journal.{storeAll, made, isCut, pendingStores}
 use Rattle.journal.proofs.Each.{Each, each-take}
 use Rattle.journal.proofs.Kept.{Within, within-pending, stores-front}
 use Rattle.answer.specs.declared.Answer.the-variants.{Done, Cut, Refused}
-use Rattle.calls.specs.Path.{tagsFrom}
-use Rattle.calls.specs.Calls.{Module, Called, mediaOf, withMedia, forwardFrom, total, Rebuilt, rebuilt, damaged, rebuildBlock, rebuildSlot, rebuildBlocks, rebuildNode, rebuildNodes, recoverRoot, recoverRebuilt, recoverShadow, recoverMedia, recoverJudged, recover, recoveryRefusal}
+use Rattle.calls.specs.Call.{Module, Called, mediaOf, withMedia}
+use Rattle.calls.specs.Recovery.{forwardFrom, total, Rebuilt, rebuilt, damaged, rebuildBlock, rebuildSlot, rebuildBlocks, rebuildNode, rebuildNodes, recoverRoot, recoverRebuilt, recoverShadow, recoverMedia, recoverJudged, recover, recoveryRefusal}
 use Rattle.call_laws.proofs.Judged.{Opened, recovery-opened, head-of}
+use Rattle.call_laws.proofs.Tags.{tags-length, tags-bytes}
 use Rattle.call_laws.proofs.Kept.{Bytes, Kept, kept-same, after-stores, media-formed, array-cells}
 
 -- a cache by its length and its bytes
@@ -45,18 +46,6 @@ with-plain h s o d b c within flag size plain p =
 
 empty-plain : (h : ℕ) → Plain h (emptyCache h)
 empty-plain h = record { sized = length-empty h; bytes = below-empty h }
-
-pub tags-length : (keys : List ℕ) (l : ℕ) (f : ℕ → List ℕ) (i n : ℕ) → length (tagsFrom keys l f i n) ≡ 8 * n
-unfolding tagsFrom
-tags-length keys l f i zero = refl
-tags-length keys l f i (suc n) =
-    length-append (toLe 8 (nodeTag keys (f i) l i)) (tagsFrom keys l f (suc i) n)
-    ∙ omega (arith, length-digits 256 8 (nodeTag keys (f i) l i), tags-length keys l f (suc i) n)
-
-pub tags-bytes : (keys : List ℕ) (l : ℕ) (f : ℕ → List ℕ) (i n : ℕ) → Below 256 (tagsFrom keys l f i n)
-unfolding tagsFrom
-tags-bytes keys l f i zero = below-nil (lit< tt)
-tags-bytes keys l f i (suc n) = below-append _ (tagsFrom keys l f (suc i) n) (below-digits 256 8 _ (lit< tt)) (tags-bytes keys l f (suc i) n)
 
 -- ---- the rebuilt cache
 

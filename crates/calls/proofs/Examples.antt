@@ -7,7 +7,9 @@ use Rattle.words.specs.Bytes.{part}
 use Rattle.answer.specs.declared.Answer.{Answer}
 use Rattle.answer.specs.declared.Answer.the-variants.{Done}
 use Rattle.cache.specs.Cache.{emptyCache}
-use Rattle.calls.specs.Calls.{Module, Called, write, rebuilt, rebuildBlocks, rebuildNodes}
+use Rattle.calls.specs.Call.{Module, Called}
+use Rattle.calls.specs.Write.{write}
+use Rattle.calls.specs.Recovery.{rebuilt, rebuildBlocks, rebuildNodes}
 use Rattle.calls.proofs.Run.{run}
 use Rattle.calls.proofs.Sparse.{sparse, upTo}
 

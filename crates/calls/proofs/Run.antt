@@ -2,7 +2,13 @@
 use Prim.Native.Nat.{ℕ}
 use Rattle.answer.specs.Answer.{codeOf, storesOf, firstOf, secondOf}
 use Rattle.cache.specs.Cache.{owner, dirty, content, withSlot, cellContent, shadowOwner, from, stray, anyOwner, missingTop, orElse, badSlot, flagsFormed, isNothing, formed, holds, current}
-use Rattle.calls.specs.Calls.{judged, formatRefusal, recoveryRefusal, accessRefusal, listRefusal, storing, countsFrom, freshNode, nodeCells, levelCells, freshArray, formatted, format, sideOk, lineText, answered, readLoaded, readPath, readJudged, newBlock, dataCell, writeBatch, writeStores, writtenCache, writeLoaded, writePath, writeJudged, forwardFrom, total, rebuildBlock, rebuildSlot, rebuildBlocks, rebuildNode, rebuildNodes, recoverRoot, recoverRebuilt, recoverShadow, recoverJudged, dirtyPages, occurrences, ListCall, codeForC, bufferForC, leftForC}
+use Rattle.calls.specs.Call.{judged, accessRefusal, storing}
+use Rattle.calls.specs.Read.{sideOk, lineText, answered, readLoaded, readPath, readJudged}
+use Rattle.calls.specs.Write.{newBlock, dataCell, writeBatch, writeStores, writtenCache, writeLoaded, writePath, writeJudged}
+use Rattle.calls.specs.Recovery.{recoveryRefusal, forwardFrom, total, rebuildBlock, rebuildSlot, rebuildBlocks, rebuildNode, rebuildNodes, recoverRoot, recoverRebuilt, recoverShadow, recoverJudged}
+use Rattle.calls.specs.Format.{formatRefusal, countsFrom, freshNode, nodeCells, levelCells, freshArray, formatted, format}
+use Rattle.calls.specs.DirtyPages.{listRefusal, dirtyPages, occurrences, ListCall}
+use Rattle.calls.specs.ForC.{codeForC, bufferForC, leftForC}
 use Rattle.calls.specs.Path.{evicted, loadNode, loadLevels, renewed, renewPath, tagsFrom}
 use Rattle.chacha20.specs.ChaCha20.{quarter, quarterRound, columnRound, diagonalRound, rounds, addStates, start, serialised, block}
 use Rattle.control.specs.Control.{depth, root, count, newRoot, queued, places, queue, inMap, validHead, valid, freshControl}

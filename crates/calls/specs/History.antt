@@ -7,7 +7,7 @@ use mathlib.Core.Bool.{Bool, true, false, cond}
 use mathlib.Core.List.{List, [], _∷_, _++_}
 use mathlib.Core.Option.{Option, none, some}
 use lib.Dec.{ltb, eqb}
-use lib.ListN.{length, getD, replicate}
+use lib.ListN.{length, getD}
 use Rattle.memory_map.specs.Map.{pageOf, placeOf, lines, nodes, cellOf}
 use Rattle.memory_map.specs.Map.Item.{node}
 use Rattle.counter.specs.Counter.{minor}
@@ -16,7 +16,12 @@ use Rattle.answer.specs.declared.Answer.the-variants.{Done, Blank, Cut, Refused
 use Rattle.answer.specs.Answer.{storesOf}
 use Rattle.control.specs.Control.{root}
 use Rattle.cache.specs.Cache.{cellContent, current}
-use Rattle.calls.specs.Calls.{Module, Called, Reading, refuse, format, read, write, recover, listRefusal, freshNode, freshRoot, countsFrom, total}
+use Rattle.calls.specs.Call.{Module, Called, refuse}
+use Rattle.calls.specs.Read.{Reading, blankText, read}
+use Rattle.calls.specs.Write.{write}
+use Rattle.calls.specs.Recovery.{recover, total}
+use Rattle.calls.specs.Format.{format, freshNode, freshRoot, countsFrom}
+use Rattle.calls.specs.DirtyPages.{listRefusal}
 
 -- Events: the calls with their inputs, and a power cut between calls, which leaves any cache of its length
 
@@ -133,7 +138,7 @@ NotCut a = (k : ℕ) → a ≡ Cut k → ⊥
 
 -- what a read of a line with that text in the book gives
 unfoldable pub Gives : Option (List ℕ) → Reading → Type 0
-Gives none r = (r .called .answer ≡ Blank (storesOf (r .called .answer))) × (r .output ≡ replicate 64 0)
+Gives none r = (r .called .answer ≡ Blank (storesOf (r .called .answer))) × (r .output ≡ blankText)
 Gives (some t) r = (r .called .answer ≡ Done (storesOf (r .called .answer)) 0) × (r .output ≡ t)
 
 -- what holds after a done recovery that tells this sum

@@ -1,3 +1,9 @@
 pub mod Path
-pub mod Calls
+pub mod Call
+pub mod Read
+pub mod Write
+pub mod Recovery
+pub mod Format
+pub mod DirtyPages
+pub mod ForC
 pub mod History

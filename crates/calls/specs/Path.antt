@@ -1,21 +1,17 @@
 -- The path of a page from the top to its counter block: loading what is missing, and renewing it after a write.
 -- Assumes nothing.
-use Prim.Native.Nat.{ℕ, zero, suc, _+_, _-_, _*_, _/_, _%_, _^_}
+use Prim.Native.Nat.{ℕ, zero, suc, _+_, _-_, _*_, _%_}
 use mathlib.Core.Bool.{cond}
 use mathlib.Core.List.{List, [], _∷_, _++_}
 use lib.Dec.{eqb}
 use lib.ListN.{replicate}
 use Rattle.words.specs.Bytes.{fromLe, toLe, part, put}
-use Rattle.memory_map.specs.Map.{cellOf}
+use Rattle.memory_map.specs.Map.{onPath, cellOf}
 use Rattle.slot_map.specs.Slots.{slotOf}
 use Rattle.memory_map.specs.Map.Item.{node, shadow}
 use Rattle.tag.specs.Tag.{nodeTag}
 use Rattle.control.specs.Control.{Cell}
 use Rattle.cache.specs.Cache.{owner, dirty, content, withSlot, cellContent, holds}
-
--- the node of level l on the path of page p
-abbrev pub onPath : ℕ → ℕ → ℕ
-onPath p l = p / 8 ^ l
 
 -- the tag that a node's content gives its child i
 abbrev pub childTag : List ℕ → ℕ → ℕ

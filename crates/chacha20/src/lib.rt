@@ -2,10 +2,10 @@
 ghost use mathlib.Core.Path.{_≡_};
 ghost use mathlib.Core.List.{_++_};
 ghost use Prim.Native.Nat.{_+_, _<_, _≤_};
-ghost use lib.ListN.{length};
+ghost use lib.ListN.{length, getD};
 ghost use Rattle.words.specs.Bytes.{wordsOf, bytesOf, part, put};
-ghost use Rattle.chacha20.specs.ChaCha20.{constants, rounds, addStates, serialised, block as chachaBlock, diagonalRound, columnRound};
-ghost use Rattle.chacha20.specs.Rows.{flat, sumRow, mixRow, quarterRows, turned};
+ghost use Rattle.chacha20.specs.ChaCha20.{constants, rounds, serialised, block as chachaBlock, diagonalRound, columnRound};
+ghost use Rattle.chacha20.specs.Rows.{row, flat, sumRow, mixRow, quarterRows, turned};
 use std::num::wrapping_add_u32;
 use words::load32;
 use words::rotate32;
@@ -108,7 +108,7 @@ fn load_row(s: &[u8], at: usize) -> [u32; 4]
 
 fn store_row(out: &mut [u8], at: usize, r: [u32; 4])
     requires { ⌜ at + 16 ≤ length (now out) ⌝ }
-    ensures { λ _. ⌜ now (out .exit) ≡ put (now (out .entry)) at (bytesOf 4 r) ⌝ }
+    ensures { λ _. ⌜ now (out .exit) ≡ put (now (out .entry)) at (bytesOf 4 (row (λ j. getD r j 0))) ⌝ }
 {
     store32(out, at, r[0]);
     store32(out, at + 4, r[1]);
@@ -129,25 +129,30 @@ fn start_rows(key: &[u8], last: [u32; 4]) -> [[u32; 4]; 4]
     ]
 }
 
-// The bytes of the sum of two states.
-fn sum_bytes(t: [[u32; 4]; 4], s: [[u32; 4]; 4]) -> [u8; 64]
-    ensures { λ r. ⌜ r ≡ bytesOf 4 (addStates (flat t) (flat s)) ⌝ }
-{
-    let mut out = [0u8; 64];
-    store_row(&mut out, 0, add_rows(t[0], s[0]));
-    store_row(&mut out, 16, add_rows(t[1], s[1]));
-    store_row(&mut out, 32, add_rows(t[2], s[2]));
-    store_row(&mut out, 48, add_rows(t[3], s[3]));
-    out
-}
-
-// The block of a key, its first 32 bytes, whose last row is the counter and the words of the nonce.
-pub fn key_stream(key: &[u8], last: [u32; 4]) -> [u8; 64]
+// The block as rows of words, of a key, its first 32 bytes, and the last row, the counter and the words of the nonce.
+pub fn key_rows(key: &[u8], last: [u32; 4]) -> [[u32; 4]; 4]
     requires { ⌜ 32 ≤ length (now key) ⌝ }
-    ensures { λ r. ⌜ r ≡ serialised (constants ++ (wordsOf 4 8 (now (key .entry)) ++ last)) ⌝ }
+    ensures { λ r. ⌜ bytesOf 4 (flat r) ≡ serialised (constants ++ (wordsOf 4 8 (now (key .entry)) ++ last)) ⌝ }
 {
     let s = start_rows(key, last);
-    sum_bytes(twenty_rounds(s), s)
+    let t = twenty_rounds(s);
+    [
+        add_rows(t[0], s[0]),
+        add_rows(t[1], s[1]),
+        add_rows(t[2], s[2]),
+        add_rows(t[3], s[3]),
+    ]
+}
+
+fn row_bytes(s: [[u32; 4]; 4]) -> [u8; 64]
+    ensures { λ r. ⌜ r ≡ bytesOf 4 (flat s) ⌝ }
+{
+    let mut out = [0u8; 64];
+    store_row(&mut out, 0, s[0]);
+    store_row(&mut out, 16, s[1]);
+    store_row(&mut out, 32, s[2]);
+    store_row(&mut out, 48, s[3]);
+    out
 }
 
 // The block function of the RFC.
@@ -155,7 +160,7 @@ pub fn block(key: &[u8], counter: u32, nonce: &[u8]) -> [u8; 64]
     requires { ⌜ (length (now key) ≡ 32) × (length (now nonce) ≡ 12) ⌝ }
     ensures { λ r. ⌜ r ≡ chachaBlock (now (key .entry)) counter (now (nonce .entry)) ⌝ }
 {
-    key_stream(
+    let rows = key_rows(
         key,
         [
             counter,
@@ -163,5 +168,6 @@ pub fn block(key: &[u8], counter: u32, nonce: &[u8]) -> [u8; 64]
             load32(nonce, 4),
             load32(nonce, 8),
         ],
-    )
+    );
+    row_bytes(rows)
 }

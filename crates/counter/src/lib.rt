@@ -1,4 +1,4 @@
-// The counter block of a page: reading and replacing one of its minors, and bringing one forward.
+// The counter block of a page: its major and its minors read, one minor replaced or brought forward, and all of them a byte each.
 ghost use mathlib.Core.Path.{_≡_};
 ghost use Prim.Native.Nat.{_<_};
 ghost use lib.ListN.{length};
@@ -28,16 +28,17 @@ pub fn minor(block: &[u8], j: usize) -> u64
     (w >> (8 + j % 8 * 7)) % 128
 }
 
-// Replaces minor j by v.
-pub fn set_minor(block: &mut [u8], j: usize, v: u64)
-    requires { ⌜ (length (now block) ≡ 64) × ((j < 64) × (v < 128)) ⌝ }
-    ensures { λ _. ⌜ now (block .exit) ≡ withMinor (now (block .entry)) j v ⌝ }
+// Writes the block with v for its minor j.
+pub fn with_minor(block: &[u8], j: usize, v: u64, out: &mut [u8])
+    requires { ⌜ (length (now block) ≡ 64) × ((length (now out) ≡ 64) × ((j < 64) × (v < 128))) ⌝ }
+    ensures { λ _. ⌜ now (out .exit) ≡ withMinor (now (block .entry)) j v ⌝ }
 {
     let at = 7 + j / 8 * 7;
     let bit = 8 + j % 8 * 7;
     let w = load64(block, at);
     let old = (w >> bit) % 128;
-    store64(block, at, w - (old << bit) + (v << bit));
+    words::copy(out, 0, block, 0, 64);
+    store64(out, at, w - (old << bit) + (v << bit));
 }
 
 // The minor s brought forward to a phase.

@@ -3,12 +3,12 @@ use mathlib.Core.Path.{_≡_, refl}
 use mathlib.Core.List.{[], _∷_}
 use lib.ListN.{replicate}
 use Rattle.answer.specs.declared.Answer.the-variants.{Done}
-use Rattle.calls.specs.Calls.{write}
+use Rattle.calls.specs.Write.{write}
 use Rattle.examples.specs.Bench.{unlimited}
 use Rattle.calls.proofs.Run.{run}
 use Rattle.calls.proofs.Sparse.{sparse, upTo}
 use Rattle.cache.specs.Cache.{emptyCache}
-use Rattle.calls.specs.Calls.{rebuilt, rebuildBlocks, rebuildNodes}
+use Rattle.calls.specs.Recovery.{rebuilt, rebuildBlocks, rebuildNodes}
 use Rattle.deep_examples.specs.States.{start, after}
 
 written :

@@ -19,7 +19,8 @@ use Rattle.answer.specs.declared.Answer.the-variants.{Done, Refused}
 use Rattle.control.specs.Control.{controlLength, depth, valid}
 use Rattle.cache.specs.Cache.{owner, dirty, formed}
 use Rattle.cache.proofs.Laws.{formed-facts}
-use Rattle.calls.specs.Calls.{judged, listRefusal, dirtyPages, ListCall}
+use Rattle.calls.specs.Call.{judged}
+use Rattle.calls.specs.DirtyPages.{listRefusal, dirtyPages, ListCall}
 use Rattle.call_laws.proofs.Judged.{passed, alike}
 
 -- ---- refusals

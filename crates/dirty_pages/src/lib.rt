@@ -4,7 +4,7 @@ ghost use mathlib.Core.Path.{_≡_};
 ghost use lib.ListN.{length, replicate};
 ghost use Rattle.words.specs.Bytes.{put, bytesOf};
 ghost use Rattle.cache.specs.Cache.{owner as ownerOf, dirty as dirtyOf};
-ghost use Rattle.calls.specs.Calls.{listRefusal, dirtyPages, ListCall};
+ghost use Rattle.calls.specs.DirtyPages.{listRefusal, dirtyPages, ListCall};
 use answer::Answer;
 
 // The refusal of the call, 0 where it has none: 3 21 5 7 23.

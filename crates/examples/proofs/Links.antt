@@ -5,7 +5,10 @@ use Prim.Native.Nat.{ℕ}
 use lib.ListN.{getD, replicate}
 use Rattle.answer.specs.declared.Answer.{Answer}
 use Rattle.answer.specs.declared.Answer.the-variants.{Done, Blank}
-use Rattle.calls.specs.Calls.{Module, Called, Reading, read, write, recover}
+use Rattle.calls.specs.Call.{Module, Called}
+use Rattle.calls.specs.Read.{Reading, read}
+use Rattle.calls.specs.Write.{write}
+use Rattle.calls.specs.Recovery.{recover}
 use Rattle.examples.specs.Bench.{keys, unlimited, powered, bench, Command, w, r, p, k, Printed, wrote, gave, recovered}
 
 pub kept-done : (x : Module) (n t : ℕ) → powered (record { answer = Done n t; after = x }) ≡ x

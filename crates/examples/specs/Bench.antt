@@ -6,7 +6,11 @@ use Rattle.answer.specs.declared.Answer.{Answer}
 use Rattle.answer.specs.declared.Answer.the-variants.{Done, Blank, Cut, Refused}
 use Rattle.cache.specs.Cache.{emptyCache}
 use Rattle.calls.proofs.Sparse.{upTo}
-use Rattle.calls.specs.Calls.{Module, Called, format, read, write, recover}
+use Rattle.calls.specs.Call.{Module, Called}
+use Rattle.calls.specs.Read.{read}
+use Rattle.calls.specs.Write.{write}
+use Rattle.calls.specs.Recovery.{recover}
+use Rattle.calls.specs.Format.{format}
 
 -- w LINE BYTE, r LINE, p, k N
 pub data Command : Type 0 where

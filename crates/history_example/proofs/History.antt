@@ -15,7 +15,11 @@ use Rattle.answer.specs.Answer.{storesOf}
 use Rattle.cache.specs.Cache.{emptyCache}
 use Rattle.calls.proofs.Run.{run}
 use Rattle.calls.proofs.Sparse.{sparse, upTo}
-use Rattle.calls.specs.Calls.{Module, Called, Reading, write, read, recover, total, countsFrom}
+use Rattle.calls.specs.Call.{Module, Called}
+use Rattle.calls.specs.Read.{Reading, read}
+use Rattle.calls.specs.Write.{write}
+use Rattle.calls.specs.Recovery.{recover, total}
+use Rattle.calls.specs.Format.{countsFrom}
 use Rattle.calls.specs.History.{reads, writes, recovers, lists, powerCut, Book, emptyBook, entered, changed, step, bookAfter, bookOf, moduleAfter, commits, AreBytes, Admitted, awaits, Allowed, counter, storedMinor, Gives}
 use Rattle.examples.specs.Bench.{keys, unlimited, powered}
 use Rattle.bench_listing.specs.States.{m0, m1, m2, m3, m4, m4x, m5, m6, m7, m7x, m8, m9, m10, m10x, m11, m12, m13}

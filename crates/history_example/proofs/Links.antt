@@ -7,7 +7,8 @@ use lib.Dec.{ltb}
 use borrow.Author.Tests.{ltb-true}
 use mathlib.Core.Bool.{_&&_, and-eq-true-iff}
 use Rattle.answer.specs.Answer.{storesOf}
-use Rattle.calls.specs.Calls.{Module, Called, write}
+use Rattle.calls.specs.Call.{Module, Called}
+use Rattle.calls.specs.Write.{write}
 use Rattle.calls.specs.History.{Event, writes, Book, step, bookAfter, bookOf, moduleAfter, commits, entered, AreBytes, Admitted, awaits, Allowed}
 
 -- a list of literal bytes

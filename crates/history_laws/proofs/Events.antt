@@ -19,7 +19,12 @@ use Rattle.answer.specs.Answer.{storesOf}
 use Rattle.control.specs.Control.{depth}
 use Rattle.journal.specs.Journal.{Store, batchStores}
 use Rattle.journal.proofs.Laws.{length-batch}
-use Rattle.calls.specs.Calls.{Module, Called, Reading, storing, refuse, answered, lineMinor, readJudged, read, accessRefusal, writeStores, writtenCache, writeLoaded, writePath, writeJudged, write, recover, listRefusal, formatRefusal, formatted, format}
+use Rattle.calls.specs.Call.{Module, Called, storing, refuse, accessRefusal}
+use Rattle.calls.specs.Read.{Reading, answered, lineMinor, readJudged, read}
+use Rattle.calls.specs.Write.{writeStores, writtenCache, writeLoaded, writePath, writeJudged, write}
+use Rattle.calls.specs.Recovery.{recover}
+use Rattle.calls.specs.Format.{formatRefusal, formatted, format}
+use Rattle.calls.specs.DirtyPages.{listRefusal}
 use Rattle.calls.specs.History.{Event, reads, writes, recovers, lists, formats, powerCut, listCall, step, Book, commits, entered, bookAfter, Admitted, awaits, Allowed, moduleAfter, bookOf}
 use Rattle.call_laws.proofs.Judged.{access-accepted}
 use Rattle.history_laws.proofs.State.{Holds, Ready}

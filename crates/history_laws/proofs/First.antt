@@ -14,7 +14,9 @@ use Rattle.control.specs.Control.{depth, root, count, validHead, freshControl}
 use Rattle.cache.specs.Cache.{emptyCache}
 use Rattle.cache.proofs.Laws.{length-empty, below-empty, owner-empty, formed-empty}
 use Rattle.journal.specs.Journal.{Media, media}
-use Rattle.calls.specs.Calls.{Module, freshNode, freshRoot, freshArray, total, countsFrom}
+use Rattle.calls.specs.Call.{Module}
+use Rattle.calls.specs.Recovery.{total}
+use Rattle.calls.specs.Format.{freshNode, freshRoot, freshArray, countsFrom}
 use Rattle.calls.specs.History.{emptyBook}
 use Rattle.call_laws.proofs.Fresh.{fresh-bytes, array-length, array-bytes, control-length, control-bytes}
 use Rattle.history_laws.proofs.Formatted.{formatted-durable, none-listed}

@@ -20,7 +20,7 @@ use Rattle.control.specs.Control.{Cell}
 use Rattle.cache.specs.Cache.{owner, dirty, content, shadowOwner, cellContent, withSlot, topSlot, holds, current}
 use Rattle.cache.proofs.Laws.{owner-same, content-same, owner-other, dirty-other, content-other, holds-owner, owner-holds, slot-holds, current-cached, current-missing}
 use Rattle.journal.proofs.Again.{put-cells}
-use Rattle.calls.specs.Calls.{freshNode}
+use Rattle.calls.specs.Format.{freshNode}
 use Rattle.calls.specs.Path.{evicted, nodeCell}
 use Rattle.call_laws.proofs.Fresh.{fresh-length}
 use Rattle.call_laws.proofs.Loads.{Fit}

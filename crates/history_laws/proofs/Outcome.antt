@@ -16,7 +16,9 @@ use Rattle.journal.specs.Journal.{Store, storeAll, batchStores, made, isCut}
 use Rattle.journal.proofs.Each.{Each}
 use Rattle.journal.proofs.Laws.{made-all, cut-made}
 use Rattle.journal.proofs.Again.{put-cells}
-use Rattle.calls.specs.Calls.{Module, Called, mediaOf, withMedia, storing, freshRoot, total, countsFrom}
+use Rattle.calls.specs.Call.{Module, Called, mediaOf, withMedia, storing}
+use Rattle.calls.specs.Recovery.{total}
+use Rattle.calls.specs.Format.{freshRoot, countsFrom}
 use Rattle.calls.specs.History.{Book}
 use Rattle.call_laws.proofs.Loads.{Sound}
 use Rattle.history_laws.proofs.Recovered.{Durable}

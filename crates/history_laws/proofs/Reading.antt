@@ -10,6 +10,7 @@ use borrow.Author.Tests.{eq-eqb, ne-eqb}
 use lib.Dec.{lit≤}
 use lib.ListN.{length, replicate, take, drop}
 use lib.Seq.{take-at, drop-at, take-all, take-take}
+use Rattle.memory_map.proofs.Laws.{page-inside}
 use Rattle.words.specs.Bytes.{fromLe, part}
 use Rattle.words.proofs.Digits.{Below, length-digits}
 use Rattle.words.proofs.Parts.{part-part}
@@ -24,10 +25,11 @@ use Rattle.control.specs.Control.{root, count}
 use Rattle.cache.specs.Cache.{cellContent}
 use Rattle.journal.specs.Journal.{Store, batchStores}
 use Rattle.journal.proofs.Again.{put-cells}
-use Rattle.calls.specs.Calls.{Module, mediaOf, Reading, sideBytes, sideOk, lineText, pageBlock, lineMinor, answered, readLoaded, readPath, readJudged, read, refusedRead, refuse, pathOf, accessRefusal, freshRoot}
+use Rattle.calls.specs.Call.{Module, mediaOf, refuse, pathOf, accessRefusal}
+use Rattle.calls.specs.Read.{Reading, sideBytes, sideOk, lineText, pageBlock, lineMinor, answered, readLoaded, readPath, readJudged, read, refusedRead}
+use Rattle.calls.specs.Format.{freshRoot}
 use Rattle.calls.specs.Path.{loaded, loadPath}
 use Rattle.calls.specs.History.{Book}
-use Rattle.call_laws.proofs.Judged.{page-inside}
 use Rattle.call_laws.proofs.Loads.{Loads, LoadsIf, path-loads}
 use Rattle.history_laws.proofs.Walked.{Walked, walked}
 use Rattle.history_laws.proofs.Written.{dataBytes, length-cipher, minor-is as minor-held, major-is as major-held}

@@ -23,9 +23,11 @@ use Rattle.cache.specs.Cache.{owner, dirty, content, shadowOwner, shadowOwners,
 use Rattle.cache.proofs.Laws.{Owned, Formed, not-bad, length-with, owner-same, dirty-same, content-same, owner-other, dirty-other, content-other, length-empty, owner-empty, dirty-empty, holds-owner, owner-holds, current-cached, current-missing}
 use Rattle.answer.specs.declared.Answer.the-variants.{Done}
 use Rattle.control.specs.Control.{depth, root}
-use Rattle.calls.specs.Calls.{phaseByte, forwardFrom, countsFrom, freshNode, total, Rebuilt, rebuilt, damaged, rebuildBlock, rebuildSlot, rebuildBlocks, rebuildNode, rebuildNodes, Module, freshRoot, recoverRoot, recoverRebuilt, recoverShadow, recoverMedia, refuseAfter}
+use Rattle.calls.specs.Call.{Module}
+use Rattle.calls.specs.Recovery.{phaseByte, forwardFrom, total, Rebuilt, rebuilt, damaged, rebuildBlock, rebuildSlot, rebuildBlocks, rebuildNode, rebuildNodes, recoverRoot, recoverRebuilt, recoverShadow, recoverMedia, refuseAfter}
+use Rattle.calls.specs.Format.{countsFrom, freshNode, freshRoot}
 use Rattle.calls.specs.Path.{childTags}
-use Rattle.history_laws.proofs.Tree.{tags-agree}
+use Rattle.call_laws.proofs.Tags.{tags-agree}
 use Rattle.call_laws.proofs.Fresh.{fresh-length}
 
 -- what the media keep of counts f

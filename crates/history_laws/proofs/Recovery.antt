@@ -25,7 +25,9 @@ use Rattle.journal.proofs.Each.{Each, each-take}
 use Rattle.journal.proofs.Laws.{length-finish, pending-some, pending-none, made-all, finish-cells, store-none}
 use Rattle.journal.proofs.Kept.{Within, within-pending, made-kept, stores-front}
 use Rattle.journal.proofs.Again.{cells-stores, rooted, cleared, finish-stores, root-stores, again}
-use Rattle.calls.specs.Calls.{total, countsFrom, Module, Called, mediaOf, withMedia, judged, recoveryRefusal, recoverMedia, recoverJudged, recover, freshRoot}
+use Rattle.calls.specs.Call.{Module, Called, mediaOf, withMedia, judged}
+use Rattle.calls.specs.Recovery.{total, recoveryRefusal, recoverMedia, recoverJudged, recover}
+use Rattle.calls.specs.Format.{countsFrom, freshRoot}
 use Rattle.calls.specs.History.{Book, storedMinor}
 use Rattle.counter.specs.Counter.{minor}
 use Rattle.cache.specs.Cache.{cellContent}

@@ -18,7 +18,10 @@ use Rattle.tag.specs.Tag.{nodeTag}
 use Rattle.journal.specs.Journal.{Store, Media, storeAll, batchStores, pendingStores, made, isCut}
 use Rattle.journal.proofs.Laws.{store-none}
 use Rattle.calls.specs.Path.{Loaded, loaded, differs}
-use Rattle.calls.specs.Calls.{Module, Called, mediaOf, withMedia, storing, refuse, refuseAfter, answered, refusedRead, lineMinor, sideOk, lineText, readLoaded, readPath, pathOf, readJudged, read, accessRefusal, writeStores, writtenCache, writeLoaded, writePath, writeJudged, write, Rebuilt, rebuilt, damaged, rebuildBlocks, rebuildNodes, recoveryRefusal, recoverRoot, recoverRebuilt, recoverShadow, recoverMedia, recoverJudged, recover}
+use Rattle.calls.specs.Call.{Module, Called, mediaOf, withMedia, storing, refuse, pathOf, accessRefusal}
+use Rattle.calls.specs.Read.{answered, refusedRead, lineMinor, sideOk, lineText, readLoaded, readPath, readJudged, read}
+use Rattle.calls.specs.Write.{writeStores, writtenCache, writeLoaded, writePath, writeJudged, write}
+use Rattle.calls.specs.Recovery.{refuseAfter, Rebuilt, rebuilt, damaged, rebuildBlocks, rebuildNodes, recoveryRefusal, recoverRoot, recoverRebuilt, recoverShadow, recoverMedia, recoverJudged, recover}
 use Rattle.history_laws.proofs.Outcome.{no-elements, cases}
 
 -- ---- answers apart

@@ -9,17 +9,16 @@ use native.Mathlib.Omega.{arith}
 use lib.ListN.{length}
 use Rattle.words.proofs.Digits.{Below}
 use Rattle.words.proofs.Order.{eq-or-not}
-use Rattle.memory_map.specs.Map.{pageOf, pages, slots}
-use Rattle.memory_map.proofs.Laws.{nodes-small}
+use Rattle.memory_map.specs.Map.{pageOf, pages, slots, onPath}
+use Rattle.memory_map.proofs.Laws.{path-bottom, nodes-small, path-within}
 use Rattle.slot_map.specs.Slots.{cacheLength, slotOf, levelOf}
 use Rattle.slot_map.proofs.Laws.{slot-within, level-slot}
 use Rattle.cache.specs.Cache.{owner, dirty, content, withSlot}
 use Rattle.cache.proofs.Laws.{length-with, below-with, owner-same, dirty-same, content-same, owner-other, dirty-other, content-other}
-use Rattle.calls.specs.Calls.{freshNode}
-use Rattle.calls.specs.Path.{onPath, renewed, renewPath}
+use Rattle.calls.specs.Format.{freshNode}
+use Rattle.calls.specs.Path.{renewed, renewPath}
 use Rattle.call_laws.proofs.Fresh.{fresh-length, fresh-bytes}
-use Rattle.call_laws.proofs.Loads.{path-within}
-use Rattle.history_laws.proofs.Tree.{path-bottom, renewed-fresh}
+use Rattle.history_laws.proofs.Tree.{renewed-fresh}
 
 module _ (keys : List ℕ) (h : ℕ) (high : h ≤ 3) (f g : ℕ → ℕ) (c : List ℕ) (wide : length c ≡ cacheLength h) (plain : Below 256 c) (p : ℕ) (page : p < pages h)
     (held : (k : ℕ) → k ≤ h → owner c (slotOf k (onPath p k)) ≡ suc (onPath p k))

@@ -11,7 +11,7 @@ use lib.Dec.{leb, ltb}
 use lib.ListN.{length, replicate}
 use Rattle.words.proofs.Digits.{Below}
 use Rattle.memory_map.specs.Map.{pageOf, placeOf, lines, arrayLength}
-use Rattle.memory_map.proofs.Laws.{nodes-bottom}
+use Rattle.memory_map.proofs.Laws.{nodes-bottom, page-inside}
 use Rattle.slot_map.specs.Slots.{cacheLength}
 use Rattle.counter.specs.Counter.{minor, phaseOf}
 use Rattle.answer.specs.declared.Answer.the-variants.{Done, Blank, Cut, Refused}
@@ -20,9 +20,12 @@ use Rattle.control.specs.Control.{controlLength, depth}
 use Rattle.cache.specs.Cache.{formed}
 use Rattle.cache.proofs.Laws.{facts-formed}
 use Rattle.journal.specs.Journal.{Store, storeAll, made, isCut}
-use Rattle.calls.specs.Calls.{Module, Called, Reading, mediaOf, withMedia, storing, answered, accessRefusal, read, recover, formatRefusal, formatted, format, refuse, total, countsFrom}
+use Rattle.calls.specs.Call.{Module, Called, mediaOf, withMedia, storing, accessRefusal, refuse}
+use Rattle.calls.specs.Read.{Reading, answered, read}
+use Rattle.calls.specs.Recovery.{recover, total}
+use Rattle.calls.specs.Format.{formatRefusal, formatted, format, countsFrom}
 use Rattle.calls.specs.History.{recovers, Book, emptyBook, Allowed, moduleAfter, bookOf, counter, storedMinor, NotCut, Gives, Restored, NotRefused, HistoryRule}
-use Rattle.call_laws.proofs.Judged.{page-inside, format-accepted}
+use Rattle.call_laws.proofs.Judged.{format-accepted}
 use Rattle.history_laws.proofs.Tree.{counts-agree, fresh-minor}
 use Rattle.history_laws.proofs.Live.{live-current}
 use Rattle.history_laws.proofs.State.{Settled, Holds, Ready, settled-now}

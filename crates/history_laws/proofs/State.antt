@@ -26,7 +26,9 @@ use Rattle.journal.proofs.Laws.{length-finish, length-batch, pending-none, made
 use Rattle.journal.proofs.Queue.{Whole, committed, length-committed, committed-count, committed-queue, cut-committed}
 use Rattle.journal.proofs.Kept.{Formed, Within, within-batch, made-kept, stores-kept, stores-front}
 use Rattle.journal.proofs.Again.{put-cells, cells-stores, rooted, cleared, finish-stores, root-stores, batch-dropped, batch-again}
-use Rattle.calls.specs.Calls.{Module, mediaOf, withMedia, freshRoot, total, countsFrom}
+use Rattle.calls.specs.Call.{Module, mediaOf, withMedia}
+use Rattle.calls.specs.Recovery.{total}
+use Rattle.calls.specs.Format.{freshRoot, countsFrom}
 use Rattle.calls.specs.History.{Book}
 use Rattle.call_laws.proofs.Loads.{Sound}
 use Rattle.call_laws.proofs.Kept.{wholes, in-map, array-cells}

@@ -22,7 +22,8 @@ use Rattle.slot_map.specs.Slots.{slotOf, levelOf, belongs}
 use Rattle.slot_map.proofs.Laws.{slot-within, level-slot, node-belongs}
 use Rattle.counter.specs.Counter.{major, minor, phaseOf}
 use Rattle.cache.specs.Cache.{cellContent, shadowOwner, topSlot}
-use Rattle.calls.specs.Calls.{phaseByte, freshNode}
+use Rattle.calls.specs.Recovery.{phaseByte}
+use Rattle.calls.specs.Format.{freshNode}
 use Rattle.call_laws.proofs.Fresh.{fresh-length}
 use Rattle.history_laws.proofs.Tree.{fresh-major, fresh-minor}
 use Rattle.history_laws.proofs.Recovered.{Durable}

@@ -14,14 +14,14 @@ use lib.Seq.{ext-getD}
 use Rattle.words.proofs.Order.{eq-or-not}
 use Rattle.memory_map.specs.Map.{pageOf, placeOf, pages, lines, nodes, slots, cellOf}
 use Rattle.memory_map.specs.Map.Item.{node}
-use Rattle.memory_map.proofs.Laws.{nodes-bottom}
+use Rattle.memory_map.proofs.Laws.{nodes-bottom, page-inside}
 use Rattle.slot_map.specs.Slots.{slotOf, levelOf}
 use Rattle.slot_map.proofs.Laws.{level-low, belongs-node}
 use Rattle.counter.specs.Counter.{minors, minor}
 use Rattle.counter.proofs.Laws.{length-minors}
 use Rattle.cache.specs.Cache.{cellContent, shadowOwner}
-use Rattle.calls.specs.Calls.{total, countsFrom}
-use Rattle.call_laws.proofs.Judged.{page-inside}
+use Rattle.calls.specs.Recovery.{total}
+use Rattle.calls.specs.Format.{countsFrom}
 use Rattle.history_laws.proofs.Tree.{length-counts, counts-agree, counts-at, fresh-minors}
 use Rattle.history_laws.proofs.Recovered.{Durable, pageSum, added}
 

@@ -4,7 +4,7 @@ use mathlib.Core.Path.{_≡_, refl, sym, ap, ap₂, _∙_}
 use mathlib.Core.Bool.{Bool, cond}
 use mathlib.Core.List.{List, _∷_, _++_, append-assoc}
 use Prim.Native.Nat.{ℕ, zero, suc, _+_, _*_, _/_, _%_, _^_, _≤_, _<_}
-use native.Mathlib.Nat.{le-refl, div-one, div-div-eq-div-mul, pow-suc, div-eq-of-lt}
+use native.Mathlib.Nat.{le-refl, div-div-eq-div-mul, pow-suc, div-eq-of-lt}
 use native.Mathlib.Omega.{arith}
 use borrow.Author.Tests.{eq-eqb, ne-eqb}
 use lib.Dec.{lit<}
@@ -12,30 +12,19 @@ use lib.ListN.{length, getD, set, take, drop}
 use lib.Seq.{take-append-add, drop-append-add, take-at, drop-at}
 use Rattle.words.specs.Bytes.{fromLe, toLe, part, put}
 use Rattle.words.proofs.Digits.{Below, below-nil, below-cons, length-digits, number-exact}
-use Rattle.memory_map.specs.Map.{pageOf, pages}
+use Rattle.memory_map.specs.Map.{pageOf, pages, onPath}
 use Rattle.slot_map.specs.Slots.{slotOf}
 use Rattle.counter.specs.Counter.{major, minors, minor, counterBlock, withMinor}
 use Rattle.counter.proofs.Laws.{major-counterBlock, minors-counterBlock}
 use Rattle.tag.specs.Tag.{nodeTag}
 use Rattle.tag.proofs.Tags.{nodeTag-lt}
 use Rattle.cache.specs.Cache.{content}
-use Rattle.calls.specs.Calls.{countsFrom, freshNode}
+use Rattle.calls.specs.Format.{countsFrom, freshNode}
 use Rattle.calls.specs.History.{changed}
-use Rattle.calls.specs.Path.{onPath, childTag, renewed, tagsFrom}
+use Rattle.calls.specs.Path.{childTag, renewed, tagsFrom}
+use Rattle.memory_map.proofs.Laws.{path-up, path-bottom, path-top}
 use Rattle.call_laws.proofs.Fresh.{fresh-bytes}
-
--- ---- paths
-
--- the node above node i is i / 8
-pub path-up : (p l : ℕ) → onPath p (suc l) ≡ onPath p l / 8
-path-up p l = ap (λ (n : ℕ). p / n) (pow-suc 8 l) ∙ sym (div-div-eq-div-mul p (8 ^ l) 8)
-
-pub path-bottom : (p : ℕ) → onPath p 0 ≡ p
-path-bottom p = div-one p
-
-pub path-top : (h p : ℕ) → p < pages h → onPath p h ≡ 0
-unfolding pages
-path-top h p q = div-eq-of-lt q
+use Rattle.call_laws.proofs.Tags.{tags-agree}
 
 -- ---- a function changed at one number
 
@@ -74,13 +63,6 @@ counts-set f g n (suc k) (suc j) e =
 -- ---- lists of tags
 
 module _ (keys : List ℕ) (l : ℕ) where
-  pub tags-agree : (f g : ℕ → List ℕ) (i n : ℕ) → ((j : ℕ) → i ≤ j → j < i + n → f j ≡ g j) → tagsFrom keys l f i n ≡ tagsFrom keys l g i n
-  unfolding tagsFrom
-  tags-agree f g i zero e = refl
-  tags-agree f g i (suc n) e =
-      ap₂ (λ (a b : List ℕ). toLe 8 (nodeTag keys a l i) ++ b) (e i (le-refl i) (omega arith))
-      (tags-agree f g (suc i) n (λ j p q. e j (omega arith) (omega arith)))
-
   -- the tag at place k
   pub tags-at : (f : ℕ → List ℕ) (i n k : ℕ) → k < n → part (tagsFrom keys l f i n) (8 * k) 8 ≡ toLe 8 (nodeTag keys (f (i + k)) l (i + k))
   unfolding tagsFrom

@@ -10,10 +10,11 @@ use native.Mathlib.Omega.{arith}
 use borrow.Author.Tests.{eq-eqb}
 use lib.Dec.{eqb}
 use lib.ListN.{length}
+use Rattle.memory_map.proofs.Laws.{path-up, path-top, path-within}
 use Rattle.words.specs.Bytes.{part}
 use Rattle.words.proofs.Digits.{Below}
 use Rattle.words.proofs.Order.{eq-or-not}
-use Rattle.memory_map.specs.Map.{pages, lines, nodes, arrayLength, cellOf}
+use Rattle.memory_map.specs.Map.{pages, lines, nodes, arrayLength, cellOf, onPath}
 use Rattle.memory_map.specs.Map.Item.{node}
 use Rattle.slot_map.specs.Slots.{slotOf, levelOf}
 use Rattle.slot_map.proofs.Laws.{slot-within, level-slot}
@@ -22,10 +23,10 @@ use Rattle.control.specs.Control.{Cell}
 use Rattle.cache.specs.Cache.{owner, content, cellContent, withSlot, topSlot, holds}
 use Rattle.cache.proofs.Laws.{holds-owner}
 use Rattle.journal.proofs.Again.{put-cells, put-cells-append}
-use Rattle.calls.specs.Calls.{freshNode, freshRoot}
-use Rattle.calls.specs.Path.{onPath, childTag, evicted, shadowCell, Loaded, loaded, differs, loadNode, loadLevels, loadPath}
-use Rattle.call_laws.proofs.Loads.{Fit, TookIf, load-took, path-within}
-use Rattle.history_laws.proofs.Tree.{path-up, child-fresh, path-top}
+use Rattle.calls.specs.Format.{freshNode, freshRoot}
+use Rattle.calls.specs.Path.{childTag, evicted, shadowCell, Loaded, loaded, differs, loadNode, loadLevels, loadPath}
+use Rattle.call_laws.proofs.Loads.{Fit, slot-fit}
+use Rattle.history_laws.proofs.Tree.{child-fresh}
 use Rattle.history_laws.proofs.Live.{Live, not-listed, own-same, own-other, array-next, live-next, lower-next, rows-next}
 
 module _ (keys : List ℕ) (h : ℕ) (low : 1 ≤ h) (high : h ≤ 3) (f : ℕ → ℕ) (base : List ℕ) (whole : length base ≡ arrayLength h) (plain : Below 256 base) where
@@ -81,8 +82,7 @@ module _ (keys : List ℕ) (h : ℕ) (low : 1 ≤ h) (high : h ≤ 3) (f : ℕ �
           ∙ ap (chosen false true) fresh
 
       fits : Fit h with-it
-      unfolding TookIf
-      fits = subst (TookIf h low high keys base whole plain c l i) loads (load-took h low high keys base whole plain c (v .fit) l i lh inside top t) .fit
+      fits = subst (λ (n : List ℕ). Fit h (withSlot c (slotOf l i) (suc i) 0 n)) fresh (slot-fit h high base whole plain c (v .fit) l i lh inside top)
 
       stored : put-cells a batch ≡ array-next keys h low high f a c v l i lh inside missing top
       unfolding put-cells

@@ -13,7 +13,7 @@ use Rattle.words.specs.Bytes.{part, put}
 use Rattle.words.proofs.Digits.{Below}
 use Rattle.words.proofs.Order.{lt-or-ge, eq-or-not}
 use Rattle.words.proofs.Words.{part-lt}
-use Rattle.memory_map.specs.Map.{pageOf, lines}
+use Rattle.memory_map.specs.Map.{pageOf, lines, onPath}
 use Rattle.slot_map.specs.Slots.{slotOf}
 use Rattle.cache.specs.Cache.{owner}
 use Rattle.counter.specs.Counter.{phaseOf}
@@ -27,8 +27,12 @@ use Rattle.journal.specs.Journal.{Store, Media, storeAll, batchStores}
 use Rattle.journal.proofs.Each.{Each}
 use Rattle.journal.proofs.Laws.{batch-empty, made-all, store-none}
 use Rattle.journal.proofs.Again.{put-cells, put-cells-append}
-use Rattle.calls.specs.Calls.{Module, mediaOf, withMedia, storing, refuse, sideBytes, lineMinor, newBlock, stopLoss, dataCell, writeBatch, writeStores, writtenCache, writeLoaded, writePath, writeJudged, write, accessRefusal, freshNode, freshRoot, total, countsFrom}
-use Rattle.calls.specs.Path.{onPath, nodeCell, renewPath, renewedRoot}
+use Rattle.calls.specs.Call.{Module, mediaOf, withMedia, storing, refuse, accessRefusal}
+use Rattle.calls.specs.Read.{sideBytes, lineMinor}
+use Rattle.calls.specs.Write.{newBlock, stopLoss, dataCell, writeBatch, writeStores, writtenCache, writeLoaded, writePath, writeJudged, write}
+use Rattle.calls.specs.Recovery.{total}
+use Rattle.calls.specs.Format.{freshNode, freshRoot, countsFrom}
+use Rattle.calls.specs.Path.{nodeCell, renewPath, renewedRoot}
 use Rattle.calls.specs.History.{Book, changed, entered}
 use Rattle.call_laws.proofs.Judged.{Accepted, access-accepted}
 use Rattle.call_laws.proofs.Kept.{Bytes, batch-sound, batch-bound}

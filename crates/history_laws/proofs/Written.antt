@@ -15,9 +15,9 @@ use Rattle.words.specs.Bytes.{toLe, part, put}
 use Rattle.words.proofs.Digits.{length-digits}
 use Rattle.words.proofs.Order.{eq-or-not}
 use Rattle.words.proofs.Puts.{getD-part}
-use Rattle.memory_map.specs.Map.{pageOf, placeOf, pages, lines, nodes, slots, arrayLength, cellOf}
+use Rattle.memory_map.specs.Map.{pageOf, placeOf, pages, lines, nodes, slots, arrayLength, cellOf, onPath}
 use Rattle.memory_map.specs.Map.Item.{line, node}
-use Rattle.memory_map.proofs.Laws.{nodes-bottom}
+use Rattle.memory_map.proofs.Laws.{path-bottom, path-top, nodes-bottom, page-inside}
 use Rattle.slot_map.specs.Slots.{slotOf, levelOf}
 use Rattle.slot_map.proofs.Laws.{slot-within, level-slot, level-within}
 use Rattle.counter.specs.Counter.{major, minor, withMinor, phaseOf}
@@ -29,13 +29,15 @@ use Rattle.control.specs.Control.{Cell}
 use Rattle.cache.specs.Cache.{owner, dirty, content, shadowOwner, cellContent, topSlot}
 use Rattle.cache.proofs.Laws.{slot-holds}
 use Rattle.journal.proofs.Again.{put-cells}
-use Rattle.calls.specs.Calls.{phaseByte, sideBytes, pageBlock, lineMinor, newBlock, freshNode, freshRoot}
-use Rattle.calls.specs.Path.{onPath, nodeCell, renewPath, renewedRoot}
+use Rattle.calls.specs.Read.{sideBytes, pageBlock, lineMinor}
+use Rattle.calls.specs.Write.{newBlock}
+use Rattle.calls.specs.Recovery.{phaseByte}
+use Rattle.calls.specs.Format.{freshNode, freshRoot}
+use Rattle.calls.specs.Path.{nodeCell, renewPath, renewedRoot}
 use Rattle.calls.specs.History.{changed}
-use Rattle.call_laws.proofs.Judged.{page-inside}
 use Rattle.call_laws.proofs.Fresh.{fresh-length}
 use Rattle.call_laws.proofs.Loads.{Fit}
-use Rattle.history_laws.proofs.Tree.{path-bottom, fresh-agree, fresh-major, fresh-minor, fresh-with, renewed-fresh, path-top, changed-same, changed-other}
+use Rattle.history_laws.proofs.Tree.{fresh-agree, fresh-major, fresh-minor, fresh-with, renewed-fresh, changed-same, changed-other}
 use Rattle.history_laws.proofs.Recovered.{Durable}
 use Rattle.history_laws.proofs.Stores.{kind, first, second, in-node, in-line, line-cell, length-after, same-part, nodes-apart, shadows-apart, line-apart, line-kept, node-apart}
 use Rattle.history_laws.proofs.Live.{Live}

@@ -1,6 +1,8 @@
--- What stores keep: the lengths of array and control record, bytes as bytes, and the record's first 7 bytes (mark, counts, depth).
+-- What stores keep: the lengths of array and control record, bytes as bytes, the record's first 7 bytes (mark, counts, depth), and the cells
+-- that they do not name.
 -- Assumes nothing.
-use mathlib.Core.Path.{_≡_, refl, _∙_}
+use mathlib.Core.Path.{_≡_, refl, sym, _∙_}
+use mathlib.Core.Logic.{_⊎_, inl, inr}
 use mathlib.Core.Bool.{Bool, true, false, cond, and-eq-true-iff}
 use mathlib.Core.List.{List, [], _∷_, map}
 use Prim.Native.Nat.{ℕ, suc, _+_, _*_, _/_, _≤_, _<_}
@@ -11,7 +13,8 @@ use lib.ListN.{length}
 use Rattle.words.specs.Bytes.{toLe, part, put}
 use Rattle.words.proofs.Digits.{Below, below-nil, below-cons, below-append, below-digits, length-digits}
 use Rattle.words.proofs.Parts.{length-put, below-put}
-use Rattle.words.proofs.Puts.{part-put-before}
+use Rattle.words.proofs.Order.{lt-eq-gt}
+use Rattle.words.proofs.Puts.{part-put-before, part-put-after}
 use Rattle.control.specs.Control.{Cell, controlLength, placeAt, queue, count, newRoot, inMap}
 use Rattle.journal.specs.Journal.{Store, Media, media, store, storeAll, stages, finish, batchStores, pendingStores, made}
 use Rattle.journal.specs.Journal.Store.{stage, commit, cell, root, clear}
@@ -122,3 +125,53 @@ pub stores-front : {size : ℕ} {m : Media} {xs : List Store} → Formed size m 
 unfolding storeAll
 stores-front f none = refl
 stores-front f (more {x = x} w ws) = stores-front (store-kept x f w) ws ∙ store-front x f w
+
+-- ---- cells that they do not name
+
+-- a store that leaves cell n alone
+unfoldable pub Avoids : ℕ → Store → Type 0
+Avoids n (stage j c) = Unit {0}
+Avoids n (commit m r) = Unit {0}
+Avoids n (cell c) = c .number ≡ n → ⊥
+Avoids n (root r) = Unit {0}
+Avoids n clear = Unit {0}
+
+avoids-stages : (n j : ℕ) (cs : List Cell) → Each (Avoids n) (stages j cs)
+unfolding stages Avoids
+avoids-stages n j [] = none
+avoids-stages n j (c ∷ cs) = more {x = stage j c} tt (avoids-stages n (suc j) cs)
+
+avoids-cells : (n : ℕ) {cs : List Cell} → Each (λ c. c .number ≡ n → ⊥) cs → Each (Avoids n) (map cell cs)
+unfolding Avoids
+avoids-cells n none = none
+avoids-cells n (more {x = c} a bs) = more {x = cell c} a (avoids-cells n bs)
+
+pub avoids-batch : (n r : ℕ) {cs : List Cell} → Each (λ c. c .number ≡ n → ⊥) cs → Each (Avoids n) (batchStores cs r)
+unfolding batchStores finish Avoids
+avoids-batch n r none = none
+avoids-batch n r (more {x = c} {xs = cs} a bs) =
+    each-append (avoids-stages n 0 (c ∷ cs))
+    (more {x = commit (suc (length cs)) r} tt (each-append (avoids-cells n (more a bs)) (more {x = root r} tt (more {x = clear} tt none))))
+
+store-apart : {size : ℕ} (n : ℕ) {m : Media} (x : Store) → Formed size m → Within (size / 72) x → Avoids n x
+    → part (store m x .array) (72 * n) 72 ≡ part (m .array) (72 * n) 72
+unfolding store Within Avoids
+store-apart n (stage j c) f w a = refl
+store-apart n (commit k r) f w a = refl
+store-apart {size} n {m} (cell c) f w a = go (lt-eq-gt n (c .number))
+  where
+    within : 72 * c .number + length (c .bytes) ≤ length (m .array)
+    within = omega (arith, w .0, w .1 .size, f .array-length)
+
+    go : (n < c .number) ⊎ ((n ≡ c .number) ⊎ (c .number < n)) → part (put (m .array) (72 * c .number) (c .bytes)) (72 * n) 72 ≡ part (m .array) (72 * n) 72
+    go (inl p) = part-put-before (m .array) (72 * c .number) (c .bytes) (omega (arith, within)) (72 * n) 72 (omega arith)
+    go (inr (inl p)) = absurd (a (sym p))
+    go (inr (inr p)) = part-put-after (m .array) (72 * c .number) (c .bytes) (omega (arith, within)) (72 * n) 72 (omega (arith, w .1 .size))
+store-apart n (root r) f w a = refl
+store-apart n clear f w a = refl
+
+pub stores-apart : {size : ℕ} (n : ℕ) {m : Media} {xs : List Store} → Formed size m → Each (Within (size / 72)) xs → Each (Avoids n) xs
+    → part (storeAll m xs .array) (72 * n) 72 ≡ part (m .array) (72 * n) 72
+unfolding storeAll
+stores-apart n f none none = refl
+stores-apart n f (more {x = x} w ws) (more a bs) = stores-apart n (store-kept x f w) ws bs ∙ store-apart n x f w a

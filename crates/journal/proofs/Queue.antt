@@ -96,6 +96,15 @@ stages-put m j (more {x = c} {xs = cs} w ws) p =
     ∙ ap (λ (i : ℕ). media (m .array) (put (put (m .control) (placeAt j) (placed c)) i (laid cs))) next
     ∙ ap (media (m .array)) (put-append (m .control) (placeAt j) (placed c) (laid cs) (omega arith))
 
+-- the queue places of a record into which cells are laid
+pub laid-queue : (k : List ℕ) (cs : List Cell) → length k ≡ controlLength → length cs ≤ 8 → Each Whole cs
+    → places (put k (placeAt 0) (laid cs)) (placeAt 0) (length cs) ≡ cs
+laid-queue k cs size few ws =
+    same-places (put k (placeAt 0) (laid cs)) (laid cs) (placeAt 0) 0 (length cs)
+    (part-put-same k (placeAt 0) (laid cs) (omega arith) (80 * length cs) (length-laid ws)
+    ∙ sym (take-all (80 * length cs) (laid cs) (omega (arith, length-laid ws))))
+    ∙ places-laid ws
+
 -- the control record k after the stages of cs and the commit
 abbrev pub committed : List ℕ → List Cell → ℕ → List ℕ
 committed k cs r = put (put k (placeAt 0) (laid cs)) 15 (length cs ∷ toLe 8 r)
@@ -138,11 +147,9 @@ module _ (k : List ℕ) (cs : List Cell) (r : ℕ) (size : length k ≡ controlL
   unfolding queue
   committed-queue =
       ap (places (committed k cs r) (placeAt 0)) committed-count
-      ∙ same-places (committed k cs r) (laid cs) (placeAt 0) 0 (length cs)
-      (part-put-after (put k (placeAt 0) (laid cs)) 15 fields starts (placeAt 0) (80 * length cs) (omega (arith, wide))
-      ∙ part-put-same k (placeAt 0) (laid cs) (omega arith) (80 * length cs) (length-laid ws)
-      ∙ sym (take-all (80 * length cs) (laid cs) (omega (arith, length-laid ws))))
-      ∙ places-laid ws
+      ∙ same-places (committed k cs r) (put k (placeAt 0) (laid cs)) (placeAt 0) (placeAt 0) (length cs)
+      (part-put-after (put k (placeAt 0) (laid cs)) 15 fields starts (placeAt 0) (80 * length cs) (omega (arith, wide)))
+      ∙ laid-queue k cs size few ws
 
   pub committed-pending : 0 < length cs → r < 2 ^ 64 → pendingStores (committed k cs r) ≡ finish cs r
   committed-pending some p =

@@ -47,10 +47,14 @@ stages j (c ∷ cs) = stage j c ∷ stages (suc j) cs
 unfoldable pub finish : List Cell → ℕ → List Store
 finish cs r = map cell cs ++ (root r ∷ clear ∷ [])
 
+-- those of staged cells: the commit and what is after it
+abbrev pub committing : List Cell → ℕ → List Store
+committing cs r = commit (length cs) r ∷ finish cs r
+
 -- 2m + 3 stores for a batch of m cells, none for an empty one
 unfoldable pub batchStores : List Cell → ℕ → List Store
 batchStores [] r = []
-batchStores (c ∷ cs) r = stages 0 (c ∷ cs) ++ (commit (length (c ∷ cs)) r ∷ finish (c ∷ cs) r)
+batchStores (c ∷ cs) r = stages 0 (c ∷ cs) ++ committing (c ∷ cs) r
 
 -- the stores that a pending batch still wants: m + 2
 unfoldable pub pendingStores : List ℕ → List Store

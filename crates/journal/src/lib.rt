@@ -2,11 +2,11 @@
 ghost use mathlib.Core.Path.{_≡_};
 ghost use mathlib.Core.Bool.{true};
 ghost use mathlib.Core.List.{_∷_, map};
-ghost use Prim.Native.Nat.{min, _*_, _/_, _≤_};
+ghost use Prim.Native.Nat.{min, _+_, _-_, _*_, _/_, _<_, _≤_};
 ghost use lib.ListN.{length};
 ghost use Rattle.words.specs.Bytes.{toLe, put};
 ghost use Rattle.control.specs.Control.{controlLength, placeAt, places, queue, inMap, count, countAt};
-ghost use Rattle.journal.specs.Journal.{media, storeAll, batchStores, pendingStores, Stored};
+ghost use Rattle.journal.specs.Journal.{media, storeAll, made, committing, pendingStores, Stored};
 ghost use Rattle.journal.specs.Journal.Store.{cell};
 use words::copy;
 use words::store64;
@@ -38,13 +38,13 @@ fn store_cells(array: &mut [u8], control: &[u8], n: usize)
     }
 }
 
-// Stores the count with the new root.
+// Stores the count with the new root. The count comes last: until it is there, nothing is pending.
 fn commit(control: &mut [u8], n: usize, root: u64)
     requires { ⌜ (length (now control) ≡ controlLength) × (n ≤ 8) ⌝ }
     ensures { λ _. ⌜ now (control .exit) ≡ put (now (control .entry)) countAt (n ∷ toLe 8 root) ⌝ }
 {
-    control[control::COUNT] = n as u8;
     store64(control, control::NEW_ROOT, root);
+    control[control::COUNT] = n as u8;
 }
 
 // Makes the stores that a pending batch still wants, as far as the allowance goes, and tells how many.
@@ -72,28 +72,18 @@ pub fn finish(array: &mut [u8], control: &mut [u8], allowance: u64) -> u64
     n as u64 + 2
 }
 
-// Makes the stores of a batch of n cells, as far as the allowance goes, and tells how many. The batch
-// has for each cell its number, 8 bytes, and its 72 bytes.
-pub fn run(
-    array: &mut [u8],
-    control: &mut [u8],
-    batch: &[u8],
-    n: usize,
-    root: u64,
-    allowance: u64,
-) -> u64
-    requires { ⌜ (length (now control) ≡ controlLength)
-        × ((n ≤ 8) × ((80 * n ≤ length (now batch)) × (inMap (length (now array) / 72) (places (now batch) 0 n) ≡ true))) ⌝ }
-    ensures { λ r. ⌜ Stored allowance (batchStores (places (now (batch .entry)) 0 n) root)
-        (media (now (array .entry)) (now (control .entry))) (media (now (array .exit)) (now (control .exit))) r ⌝ }
+// Makes the stores of a batch of n cells, as far as the allowance goes, and tells how many. Those that it allows of the
+// cells are staged: the commit comes next.
+pub fn run(array: &mut [u8], control: &mut [u8], n: usize, root: u64, allowance: u64) -> u64
+    requires { ⌜ (length (now control) ≡ controlLength) × (((1 ≤ n) × (n ≤ 8))
+        × (n < allowance → inMap (length (now array) / 72) (places (now control) (placeAt 0) n) ≡ true)) ⌝ }
+    ensures { λ _. ⌜ media (now (array .exit)) (now (control .exit)) ≡ storeAll (media (now (array .entry)) (now (control .entry)))
+        (made (allowance - n) (committing (places (now (control .entry)) (placeAt 0) n) root)) ⌝ }
+    ensures { λ r. ⌜ r ≡ min n allowance
+        + length (made (allowance - n) (committing (places (now (control .entry)) (placeAt 0) n) root)) ⌝ }
 {
-    if n == 0 {
-        return 0;
-    }
-    let staged = least(n, allowance);
-    copy(control, control::PLACES, batch, 0, 80 * staged);
     if allowance <= n as u64 {
-        return staged as u64;
+        return allowance;
     }
     commit(control, n, root);
     let left = allowance - n as u64 - 1;

@@ -1,15 +1,16 @@
 -- Laws of the map: different items have different cells, all within the array. Assumes nothing.
 use mathlib.Core.Path.{_≡_, refl, sym, ap, ap₂, _∙_, subst}
 use mathlib.Core.Logic.{_⊎_, inl, inr}
-use Prim.Native.Nat.{ℕ, zero, suc, _+_, _-_, _*_, _%_, _^_, _<_, _≤_, suc-le-suc, zero-le}
-use native.Mathlib.Nat.{le-refl, add-left-cancel, pow-succ'}
+use Prim.Native.Nat.{ℕ, zero, suc, _+_, _-_, _*_, _/_, _%_, _^_, _<_, _≤_, suc-le-suc, zero-le}
+use native.Mathlib.Nat.{div-one, div-div-eq-div-mul, div-eq-of-lt, pow-suc, div-le-self, div-lt-iff-lt-mul, sub-add-cancel, le-refl, add-left-cancel, pow-succ'}
 use native.Mathlib.Decide.{le-ind}
 use native.Mathlib.Numerals.{add-one}
 use native.Mathlib.Omega.{arith}
 use lib.Dec.{lit<}
-use Rattle.words.proofs.Digits.{pow-pos}
+use lib.Pow.{pow-add}
+use Rattle.words.proofs.Digits.{pow-pos, pow-mul}
 use Rattle.words.proofs.Order.{lt-eq-gt}
-use Rattle.memory_map.specs.Map.{pages, lines, nodes, levelStart, slots, shadowStart, shadowCells, cells, Item, cellOf, InMap}
+use Rattle.memory_map.specs.Map.{pages, lines, nodes, pageOf, onPath, levelStart, slots, shadowStart, shadowCells, cells, Item, cellOf, InMap}
 use Rattle.memory_map.specs.Map.Item.{line, node, shadow}
 
 -- what holds at 0, 1, 2 and 3 holds up to 3
@@ -27,6 +28,36 @@ shift-eight = upTo3 (λ n. (1 * 2 ^ (3 * n)) % 2 ^ 64 ≡ 8 ^ n) refl refl refl 
 pub shift-lines : (h : ℕ) → h ≤ 3 → (64 * 2 ^ (3 * h)) % 2 ^ 64 ≡ lines h
 unfolding lines pages
 shift-lines = upTo3 (λ n. (64 * 2 ^ (3 * n)) % 2 ^ 64 ≡ lines n) refl refl refl refl
+
+-- a quotient by a power of eight by a shift
+pub shift-down : (p l : ℕ) → p / 2 ^ (3 * l) ≡ p / 8 ^ l
+shift-down p l = ap (λ (k : ℕ). p / k) (sym (pow-mul 2 3 l))
+
+-- octal ones by a shift: 585 is 1111 octal
+abbrev ones : ℕ → ℕ
+ones k = 585 / 2 ^ k
+
+-- those of the levels from l on, and of level l
+ones-next : (h l : ℕ) → h ≤ 3 → l ≤ h → ones (9 - 3 * h + 3 * l) ≡ ones (9 - 3 * h + 3 * suc l) + nodes h l
+unfolding nodes
+ones-next h l p q =
+    let from : 9 - 3 * h + 3 * l ≡ 9 - 3 * (h - l) = omega arith in
+    let above : 12 - 3 * (h - l) ≡ 9 - 3 * h + 3 * suc l = omega arith in
+    ap ones from ∙ upTo3 (λ k. ones (9 - 3 * k) ≡ ones (12 - 3 * k) + 8 ^ k) refl refl refl refl (h - l) (omega arith)
+    ∙ ap (λ (k : ℕ). ones k + 8 ^ (h - l)) above
+
+pub level-ones : (h l : ℕ) → h ≤ 3 → l ≤ h + 1 → levelStart h l + ones (9 - 3 * h + 3 * l) ≡ lines h + ones (9 - 3 * h)
+unfolding levelStart
+level-ones h zero p q = let none : 9 - 3 * h + 3 * 0 ≡ 9 - 3 * h = omega arith in ap (λ (k : ℕ). lines h + ones k) none
+level-ones h (suc l) p q = omega (arith, level-ones h l p (omega arith), ones-next h l p (omega arith))
+
+-- bounds of what is added and taken away on the way
+pub ones-small : (k : ℕ) → ones k ≤ 585
+ones-small k = div-le-self 585 (2 ^ k)
+
+pub lines-small : {r h : ℕ} → r ≡ lines h → h ≤ 3 → r ≤ 32768
+unfolding lines pages
+lines-small {r} {h} e p = omega (arith, upTo3 (λ n. 64 * 8 ^ n ≤ 32768) (omega arith) (omega arith) (omega arith) (omega arith) h p)
 
 pub level-mono : (h l k : ℕ) → l ≤ k → levelStart h l ≤ levelStart h k
 unfolding levelStart
@@ -58,6 +89,36 @@ nodes-some h l = pow-pos 8 (h - l) (lit< tt)
 pub nodes-top : (h : ℕ) → nodes h h ≡ 1
 unfolding nodes
 nodes-top h = let none : h - h ≡ 0 = omega arith in ap (λ (k : ℕ). 8 ^ k) none
+
+-- the path of a page of the map
+pub path-within : (h p l : ℕ) → p < pages h → l ≤ h → onPath p l < nodes h l
+unfolding pages nodes
+path-within h p l q r =
+    div-lt-iff-lt-mul (pow-pos 8 l (lit< tt)) .1
+    (subst (λ (n : ℕ). p < n) (ap (λ (k : ℕ). 8 ^ k) (sym (sub-add-cancel r)) ∙ pow-add 8 (h - l) l) q)
+
+pub page-inside : (h n : ℕ) → n < lines h → pageOf n < pages h
+unfolding lines
+page-inside h n p = omega arith
+
+pub page-node : (h n : ℕ) → n < lines h → InMap h (node 0 (pageOf n))
+unfolding InMap
+page-node h n p = (zero-le, subst (λ (k : ℕ). pageOf n < k) (sym (nodes-bottom h)) (page-inside h n p))
+
+-- the node above node i is i / 8
+pub path-up : (p l : ℕ) → onPath p (suc l) ≡ onPath p l / 8
+path-up p l = ap (λ (n : ℕ). p / n) (pow-suc 8 l) ∙ sym (div-div-eq-div-mul p (8 ^ l) 8)
+
+pub path-bottom : (p : ℕ) → onPath p 0 ≡ p
+path-bottom p = div-one p
+
+pub path-top : (h p : ℕ) → p < pages h → onPath p h ≡ 0
+unfolding pages
+path-top h p q = div-eq-of-lt q
+
+pub path-node : (h p l : ℕ) → p < pages h → l ≤ h → InMap h (node l (onPath p l))
+unfolding InMap
+path-node h p l q r = (r, path-within h p l q r)
 
 pub level-shadow : (h l i : ℕ) → l ≤ h → i < nodes h l → levelStart h l + i < shadowStart h
 unfolding shadowStart

@@ -22,6 +22,10 @@ placeOf n = n % 64
 unfoldable pub nodes : ℕ → ℕ → ℕ
 nodes h l = 8 ^ (h - l)
 
+-- the node of level l on the path of page p
+abbrev pub onPath : ℕ → ℕ → ℕ
+onPath p l = p / 8 ^ l
+
 -- the first cell of level l
 unfoldable pub levelStart : ℕ → ℕ → ℕ
 levelStart h zero = lines h

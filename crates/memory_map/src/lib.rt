@@ -9,6 +9,7 @@ ghost use Rattle.memory_map.specs.Map.{
   InMap,
   pageOf,
   placeOf,
+  onPath,
   levelStart,
   shadowCells,
   arrayLength,
@@ -52,18 +53,21 @@ pub fn nodes(h: usize, l: usize) -> usize
     1 << (3 * (h - l))
 }
 
-// The first cell of a level. The level above the top starts with the shadow cells.
+// The node of level l on the path of page p.
+pub fn on_path(p: usize, l: usize) -> usize
+    requires { ⌜ l ≤ 3 ⌝ }
+    ensures { λ r. ⌜ r ≡ onPath p l ⌝ }
+{
+    p >> (3 * l)
+}
+
+// The first cell of a level. The level above the top starts with the shadow cells. Levels 0 to h have
+// as many nodes as the octal number of h + 1 ones says, those from l on as that of h + 1 - l ones.
 pub fn level_start(h: usize, l: usize) -> usize
     requires { ⌜ (1 ≤ h) × ((h ≤ 3) × (l ≤ h + 1)) ⌝ }
     ensures { λ r. ⌜ r ≡ levelStart h l ⌝ }
 {
-    let mut start = lines(h);
-    let mut k = 0;
-    while k < l {
-        start += nodes(h, k);
-        k += 1;
-    }
-    start
+    lines(h) + (0o1111 >> (9 - 3 * h)) - (0o1111 >> (9 - 3 * h + 3 * l))
 }
 
 pub fn slots(h: usize) -> usize

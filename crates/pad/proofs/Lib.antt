@@ -1,2 +1,3 @@
 pub mod Nonce
+pub mod Rows
 pub mod Xor

@@ -1,16 +1,17 @@
 -- Laws of XOR, of numbers and byte by byte: done twice it gives the text back. Assumes nothing.
 use mathlib.Core.Path.{_≡_, refl, sym, ap, ap₂, _∙_}
 use mathlib.Core.List.{List, [], _∷_, _++_}
-use Prim.Native.Nat.{ℕ, zero, suc, _+_, _*_, _/_, _%_, _≤_, _<_}
+use Prim.Native.Nat.{ℕ, zero, suc, _+_, _*_, _/_, _%_, _^_, _≤_, _<_}
 use native.Mathlib.Nat.{div-add-mod', mod-lt}
-use native.Mathlib.Numerals.{add-one}
 use native.Mathlib.Omega.{arith}
 use lib.Arith.{bin-ind, digits-div, digits-mod}
-use lib.Bits.{bitXor, differ, xor-step, xor-self, xor-lt}
+use lib.Bits.{bitXor, differ, xor-step, xor-self, xor-lt, xor-block}
 use lib.Dec.{lit<}
-use lib.ListN.{length, take, getD, set}
-use lib.Seq.{take-suc, take-suc-set, take-all}
-use Rattle.words.proofs.Digits.{Below, below-nil, below-cons, below-head, below-tail}
+use lib.ListN.{length, drop}
+use Rattle.words.specs.Bytes.{number, digits, fromLe, toLe, part, put}
+use Rattle.words.proofs.Digits.{Below, below-nil, below-cons, below-head, below-tail, below-append, below-take, below-drop, below-digits}
+use Rattle.words.proofs.Digits.{number-two, digits-exact}
+use Rattle.words.proofs.Parts.{length-part, part-add, put-append}
 use Rattle.pad.specs.Pad.{xorBytes}
 
 -- two binary digits
@@ -52,13 +53,6 @@ length-xor [] p h = refl
 length-xor (a ∷ t) [] h = absurd (omega arith)
 length-xor (a ∷ t) (b ∷ p) h = ap suc (length-xor t p (omega arith))
 
-pub getD-xor : (t p : List ℕ) (i : ℕ) → i < length t → length t ≤ length p → getD (xorBytes t p) i 0 ≡ bitXor (getD t i 0) (getD p i 0)
-unfolding xorBytes
-getD-xor [] p i hi h = absurd (omega arith)
-getD-xor (a ∷ t) [] i hi h = absurd (omega arith)
-getD-xor (a ∷ t) (b ∷ p) zero hi h = refl
-getD-xor (a ∷ t) (b ∷ p) (suc i) hi h = getD-xor t p i (omega arith) (omega arith)
-
 pub xor-back : (t p : List ℕ) → length t ≤ length p → xorBytes (xorBytes t p) p ≡ t
 unfolding xorBytes
 xor-back [] p h = refl
@@ -72,19 +66,54 @@ below-xor (a ∷ t) [] h k = below-nil (lit< tt)
 below-xor (a ∷ t) (b ∷ p) h k =
     below-cons (xor-lt 8 a b (below-head h) (below-head k)) (below-xor t p (below-tail h) (below-tail k))
 
--- one byte more of the join
-pub xor-next : (t p out : List ℕ) (i : ℕ) → i < length t → length t ≤ length p → length out ≡ length t
-    → take i out ≡ take i (xorBytes t p) → take (i + 1) (set out i (bitXor (getD t i 0) (getD p i 0))) ≡ take (i + 1) (xorBytes t p)
-xor-next t p out i hi h l e =
-    let size = length-xor t p h in
-    rw add-one
-    (take-suc-set out i (bitXor (getD t i 0) (getD p i 0)) (omega arith)
-    ∙ ap₂ (λ (r : List ℕ) (x : ℕ). r ++ (x ∷ [])) e (sym (getD-xor t p i hi h))
-    ∙ sym (take-suc (xorBytes t p) i 0 (omega arith)))
+-- as numbers: the XOR of two lists of bytes is that of their numbers
+number-xor : (t p : List ℕ) → length t ≡ length p → Below 256 t → Below 256 p → fromLe (xorBytes t p) ≡ bitXor (fromLe t) (fromLe p)
+unfolding xorBytes number
+number-xor [] [] e h k = refl
+number-xor [] (b ∷ p) e h k = absurd (omega arith)
+number-xor (a ∷ t) [] e h k = absurd (omega arith)
+number-xor (a ∷ t) (b ∷ p) e h k =
+    let turn : (d n : ℕ) → d + 256 * n ≡ n * 256 + d = λ d n. omega arith in
+    ap (λ (n : ℕ). bitXor a b + 256 * n) (number-xor t p (omega arith) (below-tail h) (below-tail k))
+    ∙ turn (bitXor a b) (bitXor (fromLe t) (fromLe p))
+    ∙ sym (ap₂ bitXor (turn a (fromLe t)) (turn b (fromLe p)) ∙ xor-block 8 (fromLe t) (fromLe p) a b (below-head h) (below-head k))
 
--- the whole of it
-pub xor-done : (t p out : List ℕ) → length t ≤ length p → length out ≡ length t
-    → take (length t) out ≡ take (length t) (xorBytes t p) → out ≡ xorBytes t p
-xor-done t p out h l e =
-    let size = length-xor t p h in
-    sym (take-all (length t) out (omega arith)) ∙ e ∙ take-all (length t) (xorBytes t p) (omega arith)
+-- of a number, in n bytes
+xor-number : (n : ℕ) (t p : List ℕ) → length t ≡ n → length p ≡ n → Below 256 t → Below 256 p
+    → toLe n (bitXor (fromLe t) (fromLe p)) ≡ xorBytes t p
+xor-number n t p lt lp ht hp =
+    ap (toLe n) (sym (number-xor t p (lt ∙ sym lp) ht hp))
+    ∙ digits-exact 256 n (xorBytes t p) (length-xor t p (omega arith) ∙ lt) (below-xor t p ht hp)
+
+-- of two numbers of 4 bytes, as one of 8
+pub xor-two : (t : List ℕ) (at : ℕ) {x a b : ℕ} → at + 8 ≤ length t → Below 256 t → a < 2 ^ 32 → b < 2 ^ 32
+    → x ≡ fromLe (part t at 8) → toLe 8 (bitXor x (a + b * 0x1_0000_0000)) ≡ xorBytes (part t at 8) (toLe 4 a ++ toLe 4 b)
+unfolding digits
+xor-two t at {x} {a} {b} h ht ha hb e =
+    ap₂ (λ (y z : ℕ). toLe 8 (bitXor y z)) e (sym (number-two 256 4 4 a b (lit< tt) ha hb))
+    ∙ xor-number 8 (part t at 8) (toLe 4 a ++ toLe 4 b) (length-part t at 8 h) refl (below-take 8 (drop at t) (below-drop at t ht))
+    (below-append (toLe 4 a) (toLe 4 b) (below-digits 256 4 a (lit< tt)) (below-digits 256 4 b (lit< tt)))
+
+xor-append : (a b p q : List ℕ) → length a ≡ length p → xorBytes (a ++ b) (p ++ q) ≡ xorBytes a p ++ xorBytes b q
+unfolding xorBytes
+xor-append [] b [] q e = refl
+xor-append [] b (y ∷ p) q e = absurd (omega arith)
+xor-append (x ∷ a) b [] q e = absurd (omega arith)
+xor-append (x ∷ a) b (y ∷ p) q e = ap (λ (r : List ℕ). bitXor x y ∷ r) (xor-append a b p q (omega arith))
+
+-- m bytes joined after n others
+pub xor-more : (t out : List ℕ) (at n m : ℕ) (p q : List ℕ) → length p ≡ n → length q ≡ m
+    → at + (n + m) ≤ length t → at + (n + m) ≤ length out
+    → put (put out at (xorBytes (part t at n) p)) (at + n) (xorBytes (part t (at + n) m) q)
+    ≡ put out at (xorBytes (part t at (n + m)) (p ++ q))
+xor-more t out at n m p q lp lq ht ho =
+    let first = length-part t at n (omega arith) in
+    let rest = length-part t (at + n) m (omega arith) in
+    let x = xorBytes (part t at n) p in
+    let y = xorBytes (part t (at + n) m) q in
+    let lx : length x ≡ n = length-xor (part t at n) p (omega arith) ∙ first in
+    let ly : length y ≡ m = length-xor (part t (at + n) m) q (omega arith) ∙ rest in
+    ap (λ (k : ℕ). put (put out at x) (at + k) y) (sym lx) ∙ put-append out at x y (omega arith)
+    ∙ ap (put out at)
+    (sym (xor-append (part t at n) (part t (at + n) m) p q (omega arith))
+    ∙ ap (λ (l : List ℕ). xorBytes l (p ++ q)) (sym (part-add t at n m)))

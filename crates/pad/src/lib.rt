@@ -1,14 +1,38 @@
 // The pad of a line, and encryption by it.
 ghost use mathlib.Core.Path.{_≡_};
-ghost use lib.ListN.{length};
+ghost use Prim.Native.Nat.{_+_, _≤_};
+ghost use lib.ListN.{length, getD};
+ghost use Rattle.words.specs.Bytes.{bytesOf, part, put};
+ghost use Rattle.chacha20.specs.Rows.{row};
 ghost use Rattle.pad.specs.Pad.{xorBytes, pad as padOf};
+use chacha20::key_rows;
+use words::load64;
+use words::store64;
 
-// The pad of a line at a counter, under keys of 48 bytes.
-pub fn pad(keys: &[u8], line: u32, major: u64, minor: u32) -> [u8; 64]
-    requires { ⌜ length (now keys) ≡ 48 ⌝ }
-    ensures { λ r. ⌜ r ≡ padOf (now (keys .entry)) line major minor ⌝ }
+// Writes 16 bytes of a text joined with a row of the pad, a word at a time.
+fn join_row(text: &[u8], at: usize, r: [u32; 4], out: &mut [u8])
+    requires { ⌜ (at + 16 ≤ length (now text)) × (at + 16 ≤ length (now out)) ⌝ }
+    ensures { λ _. ⌜ now (out .exit) ≡ put (now (out .entry)) at
+        (xorBytes (part (now (text .entry)) at 16) (bytesOf 4 (row (λ j. getD r j 0)))) ⌝ }
 {
-    chacha20::key_stream(
+    store64(
+        out,
+        at,
+        load64(text, at) ^ (r[0] as u64 + r[1] as u64 * 0x1_0000_0000),
+    );
+    store64(
+        out,
+        at + 8,
+        load64(text, at + 8) ^ (r[2] as u64 + r[3] as u64 * 0x1_0000_0000),
+    );
+}
+
+// Writes the 64 bytes of a text joined with the pad of a line at a counter, under keys of 48 bytes. Done twice it gives the text back.
+pub fn apply(keys: &[u8], line: u32, major: u64, minor: u32, text: &[u8], out: &mut [u8])
+    requires { ⌜ (length (now keys) ≡ 48) × ((length (now text) ≡ 64) × (length (now out) ≡ 64)) ⌝ }
+    ensures { λ _. ⌜ now (out .exit) ≡ xorBytes (now (text .entry)) (padOf (now (keys .entry)) line major minor) ⌝ }
+{
+    let s = key_rows(
         keys,
         [
             line,
@@ -16,17 +40,9 @@ pub fn pad(keys: &[u8], line: u32, major: u64, minor: u32) -> [u8; 64]
             (major % 0x1_0000_0000) as u32,
             (major / 0x1_0000_0000) as u32,
         ],
-    )
-}
-
-// Writes the 64 bytes of a text joined with a pad. Done twice it gives the text back.
-pub fn apply(text: &[u8], pad: [u8; 64], out: &mut [u8])
-    requires { ⌜ (length (now text) ≡ 64) × (length (now out) ≡ 64) ⌝ }
-    ensures { λ _. ⌜ now (out .exit) ≡ xorBytes (now (text .entry)) pad ⌝ }
-{
-    let mut i = 0;
-    while i < 64 {
-        out[i] = text[i] ^ pad[i];
-        i += 1;
-    }
+    );
+    join_row(text, 0, s[0], out);
+    join_row(text, 16, s[1], out);
+    join_row(text, 32, s[2], out);
+    join_row(text, 48, s[3], out);
 }

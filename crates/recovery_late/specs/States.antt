@@ -1,7 +1,7 @@
 -- Written by tests/test_examples.py. What recovery makes of cuts of one write. Assumes nothing.
 use Prim.Native.Nat.{ℕ}
 use mathlib.Core.List.{List, [], _∷_}
-use Rattle.calls.specs.Calls.{Module}
+use Rattle.calls.specs.Call.{Module}
 use Rattle.calls.proofs.Sparse.{sparse}
 
 unfoldable pub rebuilt9 : Module

@@ -2,7 +2,7 @@
 use mathlib.Core.Path.{_≡_, refl}
 use lib.ListN.{replicate}
 use Rattle.answer.specs.declared.Answer.the-variants.{Done}
-use Rattle.calls.specs.Calls.{recover}
+use Rattle.calls.specs.Recovery.{recover}
 use Rattle.examples.specs.Bench.{unlimited}
 use Rattle.calls.proofs.Run.{run}
 use Rattle.calls.proofs.Sparse.{sparse, upTo}

@@ -5,11 +5,15 @@ use Prim.Native.Nat.{ℕ}
 use lib.ListN.{replicate, drop}
 use Rattle.words.specs.Bytes.{put}
 use Rattle.answer.specs.declared.Answer.the-variants.{Done, Refused}
-use Rattle.calls.specs.Calls.{read, write, recover, format}
+use Rattle.calls.specs.Read.{read}
+use Rattle.calls.specs.Write.{write}
+use Rattle.calls.specs.Recovery.{recover}
+use Rattle.calls.specs.Format.{format}
 use Rattle.examples.specs.Bench.{unlimited}
 use Rattle.calls.proofs.Run.{run}
 use Rattle.calls.proofs.Sparse.{sparse, upTo}
-use Rattle.calls.specs.Calls.{ListCall, codeForC, bufferForC, leftForC}
+use Rattle.calls.specs.DirtyPages.{ListCall}
+use Rattle.calls.specs.ForC.{codeForC, bufferForC, leftForC}
 use Rattle.bench_listing.specs.States.{m0, m1}
 use Rattle.refusal_examples.specs.States.{wrote65, listed, finished}
 

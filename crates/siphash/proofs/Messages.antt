@@ -1,26 +1,42 @@
--- Laws of `compressAll`, `lastWord` and `messageWords`. Assumes nothing.
+-- Laws of `sipRound`, `compressAll`, `lastWord` and `messageWords`. Assumes nothing.
 use mathlib.Core.Path.{_≡_, refl, sym, ap, ap₂, _∙_}
 use mathlib.Core.List.{List, [], _∷_, _++_, append-assoc}
 use Prim.Native.Nat.{ℕ, _+_, _-_, _*_, _/_, _%_, _^_, _≤_, _<_}
 use native.Mathlib.Nat.{zero-add, add-mul, mul-div-cancel}
+use native.Mathlib.Numerals.{add-one}
 use native.Mathlib.Omega.{arith}
+use lib.Bits.{bitXor}
 use lib.Dec.{lit<}
-use lib.ListN.{length, getD, drop, length-append, length-drop}
-use lib.Seq.{drop-at, drop-length}
+use lib.ListN.{length, getD, take, drop, length-append, length-drop}
+use lib.Seq.{take-suc, drop-at, drop-length}
 use Rattle.words.specs.Bytes.{number, fromLe, part, wordsOf, bytesOf}
+use Rattle.words.specs.Rotate.{addW, rotl}
 use Rattle.words.proofs.Digits.{Below, below-drop, number-lt-pow, number-from}
 use Rattle.words.proofs.Words.{words-add, words-front, words-bytes, length-bytes}
-use Rattle.siphash.specs.SipHash.{initial, lastWord, messageWords, compress, compressAll, finalize, sipHash}
+use Rattle.siphash.specs.SipHash.{initial, lastWord, messageWords, sipRound, compress, compressAll, finalize, sipHash}
+
+-- a round, step by step
+pub round-steps : {v0 v2 x1 x3 w2 x0 w0 y1 y3 y2 : ℕ} (v : List ℕ)
+    → v0 ≡ addW 64 (getD v 0 0) (getD v 1 0) → v2 ≡ addW 64 (getD v 2 0) (getD v 3 0)
+    → x1 ≡ rotl 64 13 (getD v 1 0) → x3 ≡ rotl 64 16 (getD v 3 0)
+    → w2 ≡ addW 64 v2 (bitXor x1 v0) → x0 ≡ rotl 64 32 v0 → w0 ≡ addW 64 x0 (bitXor x3 v2)
+    → y1 ≡ rotl 64 17 (bitXor x1 v0) → y3 ≡ rotl 64 21 (bitXor x3 v2) → y2 ≡ rotl 64 32 w2
+    → w0 ∷ bitXor y1 w2 ∷ y2 ∷ bitXor y3 w0 ∷ [] ≡ sipRound v
+unfolding sipRound
+round-steps v e1 e2 e3 e4 e5 e6 e7 e8 e9 e10 = rw (e10, e9, e8, e7, e6, e5, e4, e3, e2, e1)
 
 pub compress-append : (v xs ys : List ℕ) → compressAll v (xs ++ ys) ≡ compressAll (compressAll v xs) ys
 unfolding compressAll
 compress-append v [] ys = refl
 compress-append v (x ∷ xs) ys = compress-append (compress v x) xs ys
 
--- one more word of s
-pub compress-next : (v s : List ℕ) (i : ℕ) → compress (compressAll v (wordsOf 8 i s)) (fromLe (part s (i * 8) 8)) ≡ compressAll v (wordsOf 8 (i + 1) s)
-unfolding compressAll wordsOf
-compress-next v s i = sym (ap (compressAll v) (words-add 8 i 1 s) ∙ compress-append v (wordsOf 8 i s) (fromLe (part s (i * 8) 8) ∷ []))
+-- one more of the words ws
+pub compress-next : (v ws : List ℕ) (i : ℕ) {r : List ℕ} {m : ℕ} → i < length ws → r ≡ compressAll v (take i ws) → m ≡ getD ws i 0
+    → compress r m ≡ compressAll v (take (i + 1) ws)
+unfolding compressAll
+compress-next v ws i h er em =
+    ap₂ compress er em ∙ sym (compress-append v (take i ws) (getD ws i 0 ∷ []))
+    ∙ ap (compressAll v) (sym (take-suc ws i 0 h) ∙ ap (λ (k : ℕ). take k ws) (sym (add-one i)))
 
 -- what is left after the whole words has at most 7 bytes
 pub left-lt : (s : List ℕ) (i : ℕ) → Below 256 s → length s / 8 * 8 ≤ i → fromLe (drop i s) < 2 ^ 56

@@ -1,7 +1,7 @@
 // SipHash-2-4. The state is four words, by value.
 ghost use mathlib.Core.Path.{_≡_};
 ghost use Prim.Native.Nat.{_*_, _≤_, _<_};
-ghost use lib.ListN.{length};
+ghost use lib.ListN.{length, set};
 ghost use Rattle.words.specs.Bytes.{wordsOf};
 ghost use Rattle.siphash.specs.SipHash.{
   sipRound,
@@ -59,6 +59,25 @@ pub fn absorb(k0: u64, k1: u64, s: &[u8], n: usize) -> [u64; 4]
     let mut i = 0;
     while i < n {
         let next = compress(r, load64(s, i * 8));
+        r = next;
+        i += 1;
+    }
+    r
+}
+
+// The same with x in place of word j.
+pub fn absorb_changed(k0: u64, k1: u64, s: &[u8], n: usize, j: usize, x: u64) -> [u64; 4]
+    requires { ⌜ n * 8 ≤ length (now s) ⌝ }
+    ensures { λ r. ⌜ r ≡ compressAll (initial k0 k1) (set (wordsOf 8 n (now (s .entry))) j x) ⌝ }
+{
+    let mut r = start(k0, k1);
+    let mut i = 0;
+    while i < n {
+        let mut w = load64(s, 8 * i);
+        if i == j {
+            w = x;
+        }
+        let next = compress(r, w);
         r = next;
         i += 1;
     }

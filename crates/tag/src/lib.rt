@@ -1,18 +1,48 @@
 // The tags of nodes and of data cells.
 ghost use mathlib.Core.Path.{_≡_};
-ghost use lib.ListN.{length};
+ghost use mathlib.Core.List.{_++_};
+ghost use Prim.Native.Nat.{_*_, _<_, _≤_};
+ghost use lib.ListN.{length, take};
+ghost use Rattle.words.specs.Bytes.{fromLe, toLe, part, put, wordsOf};
+ghost use Rattle.siphash.specs.SipHash.{initial, compressAll, finalize as finalized};
 ghost use Rattle.tag.specs.Tag.{nodeTag, dataTag};
 use siphash::absorb;
+use siphash::absorb_changed;
 use siphash::compress;
 use siphash::finalize;
 use words::load64;
+
+// The hash of a content, 64 bytes, and of the first n of its last words, under keys of 48 bytes.
+fn digest(keys: &[u8], content: &[u8], last: [u64; 4], n: usize) -> u64
+    requires { ⌜ (length (now keys) ≡ 48) × ((length (now content) ≡ 64) × (n ≤ 4)) ⌝ }
+    ensures { λ r. ⌜ r ≡ finalized (compressAll
+        (initial (fromLe (part (now (keys .entry)) 32 8)) (fromLe (part (now (keys .entry)) 40 8)))
+        (wordsOf 8 8 (now (content .entry)) ++ take n last)) ⌝ }
+{
+    let mut v = absorb(load64(keys, 32), load64(keys, 40), content, 8);
+    let mut i = 0;
+    while i < n {
+        let next = compress(v, last[i]);
+        v = next;
+        i += 1;
+    }
+    finalize(v)
+}
 
 // The tag of a node's content, 64 bytes, under keys of 48 bytes.
 pub fn node_tag(keys: &[u8], content: &[u8], level: u64, index: u64) -> u64
     requires { ⌜ (length (now keys) ≡ 48) × (length (now content) ≡ 64) ⌝ }
     ensures { λ r. ⌜ r ≡ nodeTag (now (keys .entry)) (now (content .entry)) level index ⌝ }
 {
-    let v = absorb(load64(keys, 32), load64(keys, 40), content, 8);
+    digest(keys, content, [level, index, 0x5000_0000_0000_0000, 0], 3)
+}
+
+// The tag of a node's content with x in place of its word j.
+pub fn changed_tag(keys: &[u8], content: &[u8], j: usize, x: u64, level: u64, index: u64) -> u64
+    requires { ⌜ (length (now keys) ≡ 48) × ((length (now content) ≡ 64) × (j < 8)) ⌝ }
+    ensures { λ r. ⌜ r ≡ nodeTag (now (keys .entry)) (put (now (content .entry)) (8 * j) (toLe 8 x)) level index ⌝ }
+{
+    let v = absorb_changed(load64(keys, 32), load64(keys, 40), content, 8, j, x);
     let w = compress(compress(v, level), index);
     finalize(compress(w, 0x5000_0000_0000_0000))
 }
@@ -22,7 +52,11 @@ pub fn data_tag(keys: &[u8], content: &[u8], line: u64, major: u64, minor: u64) 
     requires { ⌜ (length (now keys) ≡ 48) × (length (now content) ≡ 64) ⌝ }
     ensures { λ r. ⌜ r ≡ dataTag (now (keys .entry)) (now (content .entry)) line major minor ⌝ }
 {
-    let v = absorb(load64(keys, 32), load64(keys, 40), content, 8);
-    let w = compress(compress(compress(v, line), major), minor);
-    finalize(compress(w, 0x5800_0000_0000_0000)) % 0x100_0000_0000_0000
+    digest(
+        keys,
+        content,
+        [line, major, minor, 0x5800_0000_0000_0000],
+        4,
+    )
+        % 0x100_0000_0000_0000
 }

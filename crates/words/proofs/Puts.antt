@@ -1,14 +1,14 @@
 -- A part of a list in which bytes were put, before them, of them and after them. Assumes nothing.
 use mathlib.Core.Path.{_≡_, sym, ap, ap₂, _∙_}
-use mathlib.Core.List.{List, _++_, append-assoc}
+use mathlib.Core.List.{List, _++_, append-nil, append-assoc}
 use Prim.Native.Nat.{ℕ, _+_, _-_, _≤_, _<_}
-use native.Mathlib.Nat.{zero-add, add-zero}
+use native.Mathlib.Nat.{zero-add, add-zero, add-assoc}
 use native.Mathlib.Omega.{arith}
-use lib.ListN.{length, take, drop, getD, length-drop, take-append-drop}
+use lib.ListN.{length, take, drop, getD, length-drop, take-append-drop, drop-of-length-le}
 use lib.Dec.{lit<}
 use lib.Seq.{length-take-le, take-all, take-take, take-at, take-append-le, drop-append-le, drop-append-add, drop-drop, getD-take, getD-drop}
 use Rattle.words.specs.Bytes.{part, put}
-use Rattle.words.proofs.Parts.{part-part, length-put}
+use Rattle.words.proofs.Parts.{drop-take, length-part, part-part, length-put, copy-more}
 
 pub getD-part : (s : List ℕ) (at n i : ℕ) → i < n → getD (part s at n) i 0 ≡ getD s (at + i) 0
 getD-part s at n i h = getD-take n (drop at s) i 0 h ∙ getD-drop at s i 0
@@ -76,6 +76,27 @@ module _ (s : List ℕ) (at : ℕ) (bs : List ℕ) (h : at ≤ length s) where
   pub getD-put-after : (i : ℕ) → at + length bs ≤ i → getD (put s at bs) i 0 ≡ getD s i 0
   getD-put-after i p = one (put s at bs) s i i (part-put-after i 1 p)
 
+-- what is left after the first i, of a put behind them
+pub drop-put-in : (s : List ℕ) (i at : ℕ) (bs : List ℕ) → i + at ≤ length s → drop i (put s (i + at) bs) ≡ put (drop i s) at bs
+drop-put-in s i at bs h =
+    let front : length (take (i + at) s) ≡ i + at = length-take-le (i + at) s h in
+    drop-append-le i (take (i + at) s) (bs ++ drop (i + at + length bs) s) (omega arith)
+    ∙ ap₂ {C = List ℕ} (λ (a b : List ℕ). a ++ (bs ++ b)) (drop-take i at s)
+    (ap (λ (k : ℕ). drop k s) (add-assoc i at (length bs)) ∙ sym (drop-drop (at + length bs) i s))
+
+-- m bytes copied after n others, over the first k of them
+pub copy-over : (d : List ℕ) (to : ℕ) (s : List ℕ) (from n k m : ℕ) → k ≤ m → to + (n + m) ≤ length d → from + (n + m) ≤ length s
+    → put (put d to (part s from (n + k))) (to + n) (part s (from + n) m) ≡ put d to (part s from (n + m))
+copy-over d to s from n k m p hd hs =
+    let front = length-part s from n (omega arith) in
+    let fits : to + n ≤ length (put d to (part s from n)) = rw (length-put d to (part s from n) (omega arith)) (omega arith) in
+    let shorter : length (part s (from + n) k) ≤ length (part s (from + n) m) =
+    rw (length-part s (from + n) k (omega arith), length-part s (from + n) m (omega arith)) p
+    in
+    ap (λ (l : List ℕ). put l (to + n) (part s (from + n) m)) (sym (copy-more d to s from n k (omega arith) (omega arith)))
+    ∙ put-put (put d to (part s from n)) (to + n) (part s (from + n) k) fits (part s (from + n) m) shorter
+    ∙ copy-more d to s from n m hd hs
+
 -- a put that ends within the first of two lists
 put-left : (a b : List ℕ) (at : ℕ) (xs : List ℕ) → at + length xs ≤ length a → put (a ++ b) at xs ≡ put a at xs ++ b
 put-left a b at xs h =
@@ -100,3 +121,19 @@ put-comm s i xs j ys p q =
     let inside : i + length xs ≤ length (take j s) = rw (length-take-le j s (omega arith)) p in
     ap₂ {C = List ℕ} (λ (a b : List ℕ). a ++ (ys ++ b)) (take-left s i xs j p (omega arith)) (drop-put s i xs (omega arith) (j + length ys) (omega arith))
     ∙ sym (put-left (take j s) (ys ++ drop (j + length ys) s) i xs inside)
+
+-- a part of a list written anew
+pub part-put : (s : List ℕ) (at : ℕ) (bs : List ℕ) (n : ℕ) → length bs ≡ n → take at s ++ (bs ++ drop n (drop at s)) ≡ put s at bs
+part-put s at bs n e = ap (λ (l : List ℕ). take at s ++ (bs ++ l)) (drop-drop n at s ∙ ap (λ (k : ℕ). drop (at + k) s) (sym e))
+
+-- and a put within it
+pub put-within : (s : List ℕ) (at n i : ℕ) (bs : List ℕ) → at + n ≤ length s → i + length bs ≤ n
+    → put s (at + i) bs ≡ put s at (put (part s at n) i bs)
+put-within s at n i bs h p =
+    let size : length (part s at n) ≡ n = length-part s at n h in
+    let room : i + length bs ≤ length (part s at n) = rw size p in
+    sym (take-append-drop at (put s (at + i) bs))
+    ∙ ap₂ {C = List ℕ} _++_ (take-put s (at + i) bs (omega arith) at (omega arith)) (drop-put-in s at i bs (omega arith))
+    ∙ ap (λ (l : List ℕ). take at s ++ put l i bs) (sym (take-append-drop n (drop at s)))
+    ∙ ap (λ (l : List ℕ). take at s ++ l) (put-left (part s at n) (drop n (drop at s)) i bs room)
+    ∙ part-put s at (put (part s at n) i bs) n (length-put (part s at n) i bs room ∙ size)

@@ -2,14 +2,16 @@
 use mathlib.Core.Path.{_≡_, refl, sym, ap, ap₂, _∙_}
 use mathlib.Core.List.{List, [], _∷_, _++_, append-nil, append-assoc}
 use Prim.Native.Nat.{ℕ, zero, suc, _+_, _*_, _%_, _^_, _≤_, _<_}
-use native.Mathlib.Nat.{zero-add, zero-mul, suc-add, suc-mul, add-comm, mod-eq-of-lt, min-le-left, mul-suc, le-add-right}
+use native.Mathlib.Nat.{zero-add, zero-mul, suc-add, suc-mul, add-comm, mod-eq-of-lt, min-le-left, mul-zero, mul-suc, le-add-right}
+use native.Mathlib.Nat.{mul-le-mul-left, not-suc-le-zero, le-of-suc-le-suc}
 use native.Mathlib.Omega.{arith}
-use lib.ListN.{length, take, drop, length-append, length-take, length-drop}
+use lib.ListN.{length, take, drop, getD, set, length-append, length-take, length-drop}
 use lib.Dec.{lit<}
 use lib.Seq.{take-take, drop-drop, take-append-le, drop-append-le, take-at, drop-at}
-use Rattle.words.specs.Bytes.{fromLe, toLe, part, put, wordsOf, bytesOf}
+use Rattle.words.specs.Bytes.{number, fromLe, toLe, part, put, wordsOf, bytesOf}
 use Rattle.words.proofs.Digits.{Below, below-head, below-tail, below-nil, below-cons, below-append, below-drop, below-take, below-digits, pow-pos, length-digits, number-digits, number-lt-pow}
 use Rattle.words.proofs.Parts.{drop-take, put-append}
+use Rattle.words.proofs.Puts.{take-put, drop-put-in}
 
 -- n words, then m more
 pub words-add : (w n m : ℕ) (s : List ℕ) → wordsOf w (n + m) s ≡ wordsOf w n s ++ wordsOf w m (drop (n * w) s)
@@ -47,10 +49,10 @@ words-bytes w (x ∷ xs) h =
     (take-at (toLe w x) (bytesOf w xs) w (length-digits 256 w x)) (drop-at (toLe w x) (bytesOf w xs) w (length-digits 256 w x))
     ∙ ap₂ {C = List ℕ} (λ (y : ℕ) (r : List ℕ). y ∷ r) (number-digits 256 w x (lit< tt) ∙ mod-eq-of-lt (below-head h)) (words-bytes w xs (below-tail h))
 
--- a word at an index, also one that reaches past the end
-pub part-lt : (w : ℕ) (s : List ℕ) (at : ℕ) → Below 256 s → fromLe (part s at w) < 256 ^ w
-part-lt w s at h =
-    number-lt-pow 256 w (part s at w) (below-take w (drop at s) (below-drop at s h)) (rw length-take (min-le-left w (length (drop at s))))
+-- the number at an index, also one that reaches past the end
+pub part-lt : {b : ℕ} (w : ℕ) (s : List ℕ) (at : ℕ) → Below b s → number b (part s at w) < b ^ w
+part-lt {b} w s at h =
+    number-lt-pow b w (part s at w) (below-take w (drop at s) (below-drop at s h)) (rw length-take (min-le-left w (length (drop at s))))
 
 pub below-words : (w n : ℕ) (s : List ℕ) → Below 256 s → Below (256 ^ w) (wordsOf w n s)
 unfolding wordsOf
@@ -107,3 +109,31 @@ put-word w s at xs x h =
     ap (λ (k : ℕ). put (put s at (bytesOf w xs)) (at + k) (toLe w x)) (sym size)
     ∙ put-append s at (bytesOf w xs) (toLe w x) (omega arith)
     ∙ ap (put s at) (ap (λ (t : List ℕ). bytesOf w xs ++ t) (bytes-one w x) ∙ sym (bytes-append w xs (x ∷ [])))
+
+-- the word at an index
+pub getD-words : (w n : ℕ) (s : List ℕ) (i : ℕ) → i < n → getD (wordsOf w n s) i 0 ≡ fromLe (part s (i * w) w)
+unfolding wordsOf
+getD-words w zero s i h = absurd (not-suc-le-zero h)
+getD-words w (suc n) s zero h = ap (λ (k : ℕ). fromLe (part s k w)) (sym (zero-mul w))
+getD-words w (suc n) s (suc i) h =
+    getD-words w n (drop w s) i (le-of-suc-le-suc h)
+    ∙ ap (λ (l : List ℕ). fromLe (take w l)) (drop-drop (i * w) w s ∙ ap (λ (k : ℕ). drop k s) (add-comm w (i * w) ∙ sym (suc-mul i w)))
+
+-- a word put in the place of another
+pub words-put : (w n : ℕ) (s : List ℕ) (j x : ℕ) → w * n ≤ length s → j < n → x < 256 ^ w
+    → wordsOf w n (put s (w * j) (toLe w x)) ≡ set (wordsOf w n s) j x
+unfolding wordsOf
+words-put w zero s j x h hj hx = absurd (not-suc-le-zero hj)
+words-put w (suc n) s zero x h hj hx =
+    ap (λ (k : ℕ). wordsOf w (suc n) (put s k (toLe w x))) (mul-zero w)
+    ∙ words-toLe w n x (drop (0 + length (toLe w x)) s)
+    ∙ ap₂ {C = List ℕ} (λ (y k : ℕ). y ∷ wordsOf w n (drop k s)) (mod-eq-of-lt hx) (zero-add _ ∙ length-digits 256 w x)
+words-put w (suc n) s (suc j) x h hj hx =
+    let at : w * suc j ≡ w + w * j = mul-suc w j ∙ add-comm (w * j) w in
+    let room : w + w * n ≤ length s = rw (add-comm, ← mul-suc) h in
+    let rest : w * n ≤ length (drop w s) = rw length-drop (omega arith) in
+    let before : w * j ≤ w * n = mul-le-mul-left w (omega arith) in
+    ap (λ (k : ℕ). wordsOf w (suc n) (put s k (toLe w x))) at
+    ∙ ap₂ {C = List ℕ} (λ (a b : List ℕ). fromLe a ∷ wordsOf w n b)
+    (take-put s (w + w * j) (toLe w x) (omega arith) w (le-add-right w (w * j))) (drop-put-in s w (w * j) (toLe w x) (omega arith))
+    ∙ ap (λ (r : List ℕ). fromLe (take w s) ∷ r) (words-put w n (drop w s) j x rest (le-of-suc-le-suc hj) hx)

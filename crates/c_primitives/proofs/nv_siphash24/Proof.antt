@@ -6,8 +6,9 @@ use borrow.Author.Needs.{needs}
 use borrow.Author.Tests.{eq-eqb, ne-eqb}
 use Rattle.words.specs.Bytes.{toLe}
 use Rattle.words.proofs.Digits.{length-digits}
+use Rattle.words.proofs.Parts.{put-all}
 use Rattle.c_primitives.specs.Primitives.{hashSizes, hashOut}
-use Rattle.c_primitives.proofs.Answers.{refused, done, wrong, right-then, stored}
+use Rattle.c_primitives.proofs.Answers.{refused, done, wrong, right-then}
 use Rattle.c_primitives.proofs.nv_siphash24.Statement.{statement}
 use Rattle.c_primitives.proofs.nv_siphash24.Tie as tie
 
@@ -37,7 +38,7 @@ returns-3 c =
     let start = sizes .before .before .before .before .before in
     let hash = called .hash .result in
     done _ (right-then (sizes .before .if1 .left) (eq-eqb _ _ (sizes .if2 .left)))
-    (after .store64 .ensures ∙ stored (toLe 8 hash) (start .args .out .now) (omega (arith, length-digits 256 8 hash))
+    (after .store64 .ensures ∙ put-all (start .args .out .now) (toLe 8 hash) (omega (arith, length-digits 256 8 hash))
     ∙ ap (toLe 8) (called .hash .ensures))
 
 pub nv-siphash24-spec : {M : Type 1} → statement M

@@ -18,20 +18,34 @@ load32-requires-2 c κs = search needs
 load32-requires-3 : tie.Need-load32-requires-3
 load32-requires-3 c κs = search needs
 
-key-stream-requires : tie.Need-key-stream-requires
-key-stream-requires c κs = search needs
+key-rows-requires : tie.Need-key-rows-requires
+key-rows-requires c κs = search needs
+
+row-bytes-requires : tie.Need-row-bytes-requires
+row-bytes-requires c κs = search needs
 
 returns : tie.Need-returns
 unfolding start block
 returns c =
-    let start = c .before .before .before .before .before .before in
+    let rows = c .before in
+    let start = rows .before .before .before .before .before .before in
     let words =
-    (λ i. c .before .before .before .load32 .ensures i ∷ c .before .before .load322 .ensures i ∷ c .before .load323 .ensures i ∷ [])
+    (λ i.
+    rows .before .before .before .load32 .ensures i
+    ∷ rows .before .before .load322 .ensures i
+    ∷ rows .before .load323 .ensures i
+    ∷ [])
     ∙ three-at (start .args .nonce .now) in
-    c .key-stream .ensures
+    c .row-bytes .ensures ∙ rows .key-rows .ensures
     ∙ ap (λ (l : List ℕ). serialised (constants ++ (wordsOf 4 8 (start .args .key .now) ++ (start .args .counter ∷ l)))) words
 
 pub block-spec : {M : Type 1} → statement M
 block-spec =
     tie.close
-    (tie.spec load32-requires load32-requires-2 load32-requires-3 key-stream-requires returns)
+    (tie.spec
+    load32-requires
+    load32-requires-2
+    load32-requires-3
+    key-rows-requires
+    row-bytes-requires
+    returns)

@@ -47,7 +47,7 @@ returns c =
     let c2 = c3 .before .before .before .before in
     let c1 = c2 .before .before .before .before in
     let start = c1 .before .before .before in
-    put-row (start .args .out .now) (start .args .at) (start .args .t3) (search needs) (start .pre)
+    put-row (start .args .out .now) (start .args .at) (start .args .t3) (start .pre)
     (c1 .store32 .ensures)
     (c2 .store322 .ensures)
     (c3 .store323 .ensures)

@@ -5,7 +5,7 @@ use Prim.Native.Nat.{ℕ, _-_, _*_}
 use borrow.Author.Needs.{needs}
 use lib.ListN.{replicate}
 use Rattle.words.specs.Bytes.{put}
-use Rattle.calls.specs.Calls.{listRefusal}
+use Rattle.calls.specs.DirtyPages.{listRefusal}
 use Rattle.dirty_pages.proofs.Laws.{accepted, few-pages, refused, listed}
 use Rattle.dirty_pages.proofs.dirty_pages.Statement.{statement}
 use Rattle.dirty_pages.proofs.dirty_pages.Tie as tie

@@ -9,7 +9,7 @@ use Rattle.slot_map.specs.Slots.{cacheLength}
 use Rattle.control.specs.Control.{depth, valid}
 use Rattle.control.proofs.Laws.{valid-parts}
 use Rattle.cache.specs.Cache.{formed}
-use Rattle.calls.specs.Calls.{listRefusal}
+use Rattle.calls.specs.DirtyPages.{listRefusal}
 use Rattle.dirty_pages.proofs.Laws.{wrong-control, not-valid, wrong-cache, wrong-out, by-formed}
 use Rattle.dirty_pages.proofs.refusal.Statement.{statement}
 use Rattle.dirty_pages.proofs.refusal.Tie as tie

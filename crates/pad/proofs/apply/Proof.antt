@@ -1,70 +1,81 @@
--- `apply` writes the text joined with the pad. The loop's invariant: the first `i` bytes are written. Assumes nothing.
-use mathlib.Core.Path.{_≡_, refl}
-use Prim.Native.Nat.{_≤_, _-_}
+-- `pad::apply` meets its contract: the text is joined with the block's four rows, by `join-rows`, and the block is the pad, by `pad-is`.
+-- Assumes nothing.
+use mathlib.Core.Path.{_∙_, ap}
 use native.Mathlib.Omega.{arith}
-use lib.ListN.{length, take, length-set}
 use borrow.Author.Needs.{needs}
 use Rattle.pad.specs.Pad.{xorBytes}
-use Rattle.pad.proofs.Xor.{xor-next, xor-done}
+use Rattle.pad.proofs.Nonce.{pad-is}
+use Rattle.pad.proofs.Rows.{join-rows}
 use Rattle.pad.proofs.apply.Statement.{statement}
 use Rattle.pad.proofs.apply.Tie as tie
 
-abbrev Inv-loop : tie.InvT-loop
-Inv-loop text out₀ pad i₀ out i = (i ≤ 64) × (length out ≡ 64) × (take i out ≡ take i (xorBytes text pad))
+cast-t10 : tie.Need-cast-t10
+cast-t10 c = search needs
 
-abbrev μ-loop : tie.MeasureT-loop
-μ-loop text out₀ pad i₀ out i = 64 - i
+cast-t12 : tie.Need-cast-t12
+cast-t12 c = search needs
 
-loop-holds : tie.Need-loop-holds Inv-loop μ-loop
-loop-holds c = (omega arith, c .pre .1, refl)
+key-rows-requires : tie.Need-key-rows-requires
+key-rows-requires c κs = search needs
 
-shared-slice-read-out : tie.Need-shared-slice-read-out Inv-loop μ-loop
-shared-slice-read-out c = omega arith
+array-copy-out-join-row : tie.Need-array-copy-out-join-row
+array-copy-out-join-row c = search needs
 
-array-read-out : tie.Need-array-read-out Inv-loop μ-loop
-array-read-out c = omega arith
+join-row-requires : tie.Need-join-row-requires
+join-row-requires c κs = search needs
 
-slice-write-out : tie.Need-slice-write-out Inv-loop μ-loop
-slice-write-out c = omega arith
+array-copy-out-join-row-2 : tie.Need-array-copy-out-join-row-2
+array-copy-out-join-row-2 c = search needs
 
-add-i : tie.Need-add-i Inv-loop μ-loop
-add-i c = omega arith
+join-row-requires-2 : tie.Need-join-row-requires-2
+join-row-requires-2 c κs = search needs
 
-loop-less : tie.Need-loop-less Inv-loop μ-loop
-loop-less c = omega arith
+array-copy-out-join-row-3 : tie.Need-array-copy-out-join-row-3
+array-copy-out-join-row-3 c = search needs
 
-loop-again : tie.Need-loop-again Inv-loop μ-loop
-loop-again c =
-    let start = c .before .before .before in
-    let size : length (start .args .t2) ≡ 64 = search needs in (
-      omega arith,
-      simp length-set (c .before .before .loop .inv .1),
-      xor-next (start .args .text .now) (start .args .t2) (c .before .before .loop .out) (c .before .before .loop .i)
-          (omega arith) (omega arith) (omega arith) (c .before .before .loop .inv .2),
-    )
+join-row-requires-3 : tie.Need-join-row-requires-3
+join-row-requires-3 c κs = search needs
 
-same-length : tie.Need-same-length Inv-loop μ-loop
-same-length c = omega arith
+array-copy-out-join-row-4 : tie.Need-array-copy-out-join-row-4
+array-copy-out-join-row-4 c = search needs
 
-returns : tie.Need-returns Inv-loop μ-loop
+join-row-requires-4 : tie.Need-join-row-requires-4
+join-row-requires-4 c κs = search needs
+
+same-length : tie.Need-same-length
+same-length c = search needs
+
+returns : tie.Need-returns
 returns c =
-    let start = c .before .before in
-    let size : length (start .args .t2) ≡ 64 = search needs in
-    let all : c .before .loop .i ≡ length (start .args .text .now) = omega arith in
-    xor-done (start .args .text .now) (start .args .t2) (c .before .loop .out) (omega arith) (omega arith) (rw all at (c .before .loop .inv .2))
+    let c4 = c .before .before in
+    let c3 = c4 .before .before .before .before .before in
+    let c2 = c3 .before .before .before .before .before in
+    let c1 = c2 .before .before .before .before .before in
+    let rows = c1 .before .before .before in
+    let start = rows .before .before .before .before in
+    let args = start .args in
+    join-rows (args .text .now) (args .out .now) (rows .key-rows .result) (start .pre .1 .0) (start .pre .1 .1)
+    (c1 .join-row .ensures)
+    (c2 .join-row2 .ensures)
+    (c3 .join-row3 .ensures)
+    (c4 .join-row4 .ensures)
+    ∙ ap (xorBytes (args .text .now))
+    (rows .key-rows .ensures ∙ pad-is (args .keys .now) (args .line) (args .major) (args .minor) (omega arith) (omega arith))
 
 pub apply-spec : {M : Type 1} → statement M
 apply-spec =
     tie.close
     (tie.spec
-    Inv-loop
-    μ-loop
-    loop-holds
-    shared-slice-read-out
-    array-read-out
-    slice-write-out
-    add-i
-    loop-less
-    loop-again
+    cast-t10
+    cast-t12
+    key-rows-requires
+    array-copy-out-join-row
+    join-row-requires
+    array-copy-out-join-row-2
+    join-row-requires-2
+    array-copy-out-join-row-3
+    join-row-requires-3
+    array-copy-out-join-row-4
+    join-row-requires-4
     same-length
     returns)

@@ -1,16 +1,19 @@
 -- `siphash::absorb` meets its contract. The loop's invariant: `r` is the state after the first `i` words.
 -- Assumes nothing.
-use mathlib.Core.Path.{_≡_, _∙_, ap, ap₂}
-use Prim.Native.Nat.{ℕ, _-_, _≤_, zero-le}
+use mathlib.Core.Path.{_≡_, _∙_, ap, sym}
+use Prim.Native.Nat.{_-_, _≤_, zero-le}
 use native.Mathlib.Omega.{arith}
+use lib.ListN.{take}
+use lib.Seq.{take-all}
 use Rattle.words.specs.Bytes.{wordsOf}
-use Rattle.siphash.specs.SipHash.{initial, compress, compressAll}
+use Rattle.words.proofs.Words.{getD-words, length-words}
+use Rattle.siphash.specs.SipHash.{initial, compressAll}
 use Rattle.siphash.proofs.Messages.{compress-next}
 use Rattle.siphash.proofs.absorb.Statement.{statement}
 use Rattle.siphash.proofs.absorb.Tie as tie
 
 abbrev Inv-loop : tie.InvT-loop
-Inv-loop k0 k1 s n r₀ i₀ r i = (i ≤ n) × (r ≡ compressAll (initial k0 k1) (wordsOf 8 i s))
+Inv-loop k0 k1 s n r₀ i₀ r i = (i ≤ n) × (r ≡ compressAll (initial k0 k1) (take i (wordsOf 8 n s)))
 
 abbrev μ-loop : tie.MeasureT-loop
 μ-loop k0 k1 s n r₀ i₀ r i = n - i
@@ -39,18 +42,23 @@ loop-less c = omega arith
 
 loop-again : tie.Need-loop-again Inv-loop μ-loop
 loop-again c =
-    let start = c .before .before .before .before .before .before in
+    let at = c .before .before .before in
+    let start = at .before .before .before in
+    let i = at .loop .i in
+    let n = start .args .n in
     let s = start .args .s .now in
-    let at = c .before .before .before .loop in
-    let next = c .compress .ensures ∙ ap₂ compress (at .inv .1) (c .before .load64 .ensures) ∙ compress-next (initial (start .args .k0) (start .args .k1)) s (at .i) in
-    (omega arith, next)
+    let word = c .before .load64 .ensures ∙ sym (getD-words 8 n s i (omega arith)) in
+    let key = initial (start .args .k0) (start .args .k1) in
+    let next = compress-next key (wordsOf 8 n s) i (rw length-words (omega arith)) (at .loop .inv .1) word in
+    (omega arith, c .compress .ensures ∙ next)
 
 returns : tie.Need-returns Inv-loop μ-loop
 returns c =
     let start = c .before .before .before .before in
-    let at = c .before .loop in
-    let done : at .i ≡ start .args .n = omega arith in
-    at .inv .1 ∙ ap (λ (k : ℕ). compressAll (initial (start .args .k0) (start .args .k1)) (wordsOf 8 k (start .args .s .now))) done
+    let n = start .args .n in
+    let s = start .args .s .now in
+    let all = take-all (c .before .loop .i) (wordsOf 8 n s) (rw length-words (omega arith)) in
+    c .before .loop .inv .1 ∙ ap (compressAll (initial (start .args .k0) (start .args .k1))) all
 
 pub absorb-spec : {M : Type 1} → statement M
 absorb-spec =

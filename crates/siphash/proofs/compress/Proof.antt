@@ -1,7 +1,12 @@
 -- `siphash::compress` meets its contract, from what two rounds ensure.
 -- Assumes nothing.
+use mathlib.Core.Path.{_∙_, ap}
+use mathlib.Core.List.{List, [], _∷_}
+use Prim.Native.Nat.{ℕ}
 use borrow.Author.Needs.{needs}
-use Rattle.siphash.specs.SipHash.{compress as compressed}
+use lib.Bits.{bitXor}
+use lib.ListN.{getD}
+use Rattle.siphash.specs.SipHash.{sipRound, compress as compressed}
 use Rattle.siphash.proofs.compress.Statement.{statement}
 use Rattle.siphash.proofs.compress.Tie as tie
 
@@ -37,7 +42,10 @@ array-read-t15-2 c = search needs
 
 returns : tie.Need-returns
 unfolding compressed
-returns c = cc
+returns c =
+    let m = c .before .before .args .m in
+    ap (λ (r : List ℕ). bitXor (getD r 0 0) m ∷ getD r 1 0 ∷ getD r 2 0 ∷ getD r 3 0 ∷ [])
+    (c .sip-round2 .ensures ∙ ap sipRound (c .before .sip-round .ensures))
 
 pub compress-spec : {M : Type 1} → statement M
 compress-spec =

@@ -1,7 +1,12 @@
 -- `siphash::finalize` meets its contract, from what four rounds ensure.
 -- Assumes nothing.
+use mathlib.Core.Path.{_∙_, ap}
+use mathlib.Core.List.{List}
+use Prim.Native.Nat.{ℕ}
 use borrow.Author.Needs.{needs}
-use Rattle.siphash.specs.SipHash.{finalize as finalized}
+use lib.Bits.{bitXor}
+use lib.ListN.{getD}
+use Rattle.siphash.specs.SipHash.{sipRound, finalize as finalized}
 use Rattle.siphash.proofs.finalize.Statement.{statement}
 use Rattle.siphash.proofs.finalize.Tie as tie
 
@@ -43,7 +48,10 @@ array-read-result-8 c = search needs
 
 returns : tie.Need-returns
 unfolding finalized
-returns c = cc
+returns c =
+    let two = c .before .before .sip-round2 .ensures ∙ ap sipRound (c .before .before .before .sip-round .ensures) in
+    ap (λ (r : List ℕ). bitXor (bitXor (getD r 0 0) (getD r 1 0)) (bitXor (getD r 2 0) (getD r 3 0)))
+    (c .sip-round4 .ensures ∙ ap sipRound (c .before .sip-round3 .ensures ∙ ap sipRound two))
 
 pub finalize-spec : {M : Type 1} → statement M
 finalize-spec =

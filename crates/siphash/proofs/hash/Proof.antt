@@ -1,6 +1,12 @@
 -- `siphash::hash` meets its contract, from what its callees ensure.
 -- Assumes nothing.
+use mathlib.Core.Path.{_∙_, ap, ap₂}
+use mathlib.Core.List.{List}
+use Prim.Native.Nat.{ℕ, _/_}
 use borrow.Author.Needs.{needs}
+use lib.ListN.{length}
+use Rattle.words.specs.Bytes.{wordsOf}
+use Rattle.siphash.specs.SipHash.{initial, compress, compressAll, finalize}
 use Rattle.siphash.proofs.Messages.{hash-last}
 use Rattle.siphash.proofs.hash.Statement.{statement}
 use Rattle.siphash.proofs.hash.Tie as tie
@@ -25,9 +31,15 @@ finalize-requires c κs = search needs
 
 returns : tie.Need-returns
 returns c =
-    let start = c .before .before .before .before .before .before .before .before in
-    let same = hash-last (start .args .key .now) (start .args .message .now) in
-    cc
+    let last = c .before .before in
+    let absorbed = last .before in
+    let start = absorbed .before .before .before .before .before in
+    let message = start .args .message .now in
+    let key = ap₂ initial (absorbed .before .before .load64 .ensures) (absorbed .before .load642 .ensures) in
+    let words = absorbed .absorb .ensures ∙ ap (λ (k : List ℕ). compressAll k (wordsOf 8 (length message / 8) message)) key in
+    c .finalize .ensures
+    ∙ ap finalize (c .before .compress .ensures ∙ ap₂ compress words (last .last-word .ensures))
+    ∙ hash-last (start .args .key .now) message
 
 pub hash-spec : {M : Type 1} → statement M
 hash-spec =

@@ -1,7 +1,7 @@
 -- `siphash::sip_round` meets its contract, from what the sums and rotations ensure.
 -- Assumes nothing.
 use borrow.Author.Needs.{needs}
-use Rattle.siphash.specs.SipHash.{sipRound}
+use Rattle.siphash.proofs.Messages.{round-steps}
 use Rattle.siphash.proofs.sip_round.Statement.{statement}
 use Rattle.siphash.proofs.sip_round.Tie as tie
 
@@ -54,8 +54,24 @@ rotate64-requires-6 : tie.Need-rotate64-requires-6
 rotate64-requires-6 c κs = search needs
 
 returns : tie.Need-returns
-unfolding sipRound
-returns c = cc
+returns c =
+    let w0 = c .before .before .before in
+    let w2 = w0 .before .before in
+    let v3 = w2 .before in
+    let v1 = v3 .before in
+    let v2 = v1 .before in
+    let v0 = v2 .before in
+    round-steps (v0 .before .args .t1)
+    (v0 .wrapping-add-u64 .ensures)
+    (v2 .wrapping-add-u642 .ensures)
+    (v1 .rotate64 .ensures)
+    (v3 .rotate642 .ensures)
+    (w2 .wrapping-add-u643 .ensures)
+    (w0 .before .rotate643 .ensures)
+    (w0 .wrapping-add-u644 .ensures)
+    (c .before .before .rotate644 .ensures)
+    (c .before .rotate645 .ensures)
+    (c .rotate646 .ensures)
 
 pub sip-round-spec : {M : Type 1} → statement M
 sip-round-spec =

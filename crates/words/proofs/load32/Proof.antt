@@ -1,7 +1,7 @@
 -- `words::load32` meets its contract. Assumes nothing.
 use borrow.Author.Needs.{needs}
 use native.Mathlib.Omega.{arith}
-use Rattle.words.proofs.Parts.{word4}
+use Rattle.words.proofs.Parts.{number4}
 use Rattle.words.proofs.load32.Statement.{statement}
 use Rattle.words.proofs.load32.Tie as tie
 
@@ -59,7 +59,7 @@ add-result-3 c = search needs
 returns : tie.Need-returns
 returns c =
     let start = c .before .before .before .before .before .before .before .before .before in
-    omega (arith, word4 (start .args .s .now) (start .args .at) (start .pre))
+    omega (arith, number4 256 (start .args .s .now) (start .args .at) (start .pre))
 
 pub load32-spec : {M : Type 1} → statement M
 load32-spec =

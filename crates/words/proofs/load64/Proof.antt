@@ -1,7 +1,7 @@
 -- `words::load64` meets its contract. Assumes nothing.
 use borrow.Author.Needs.{needs}
 use native.Mathlib.Omega.{arith}
-use Rattle.words.proofs.Parts.{word8}
+use Rattle.words.proofs.Parts.{number-parts}
 use Rattle.words.proofs.load64.Statement.{statement}
 use Rattle.words.proofs.load64.Tie as tie
 
@@ -29,7 +29,7 @@ add-result c = search needs
 returns : tie.Need-returns
 returns c =
     let start = c .before .before .before in
-    omega (arith, word8 (start .args .s .now) (start .args .at) (start .pre))
+    omega (arith, number-parts 256 4 4 (start .args .s .now) (start .args .at) (omega arith))
 
 pub load64-spec : {M : Type 1} → statement M
 load64-spec =

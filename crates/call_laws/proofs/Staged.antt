@@ -1,0 +1,40 @@
+-- A batch of sound cells that is staged as far as an allowance goes, and run: its stores. Assumes nothing.
+use mathlib.Core.Path.{_≡_, ap, ap₂, _∙_, subst₂}
+use mathlib.Core.Bool.{Bool, true}
+use mathlib.Core.List.{List}
+use Prim.Native.Nat.{ℕ, _/_, _≤_, _<_}
+use native.Mathlib.Omega.{arith}
+use lib.ListN.{length}
+use Rattle.memory_map.specs.Map.{arrayLength}
+use Rattle.control.specs.Control.{Cell, controlLength, placeAt, places, inMap}
+use Rattle.batch.specs.Batch.{stagedFrom}
+use Rattle.journal.specs.Journal.{Media, media, batchStores, Stored}
+use Rattle.journal.proofs.Each.{Each}
+use Rattle.journal.proofs.Steps.{Ran, staged-places, run-stored}
+use Rattle.call_laws.proofs.Loads.{Sound}
+use Rattle.call_laws.proofs.Kept.{wholes, in-map, array-cells}
+
+-- a batch of the cells cs, staged in k as far as an allowance goes: k₁, with n cells
+pub record Staged (h allowance : ℕ) (a k : List ℕ) (cs : List Cell) (k₁ : List ℕ) (n : ℕ) : Type 0 where
+  pub flat : h ≤ 3
+  pub array : length a ≡ arrayLength h
+  pub control : length k ≡ controlLength
+  pub sound : Each (Sound h) cs
+  pub some : 1 ≤ length cs
+  pub few : length cs ≤ 8
+  pub cells : k₁ ≡ stagedFrom allowance 0 cs k
+  pub number : n ≡ length cs
+
+module _ {h allowance : ℕ} {a k : List ℕ} {cs : List Cell} {k₁ : List ℕ} {n : ℕ} (s : Staged h allowance a k cs k₁ n) where
+  -- what is staged whole lies in the map
+  pub staged-inside : n < allowance → inMap (length a / 72) (places k₁ (placeAt 0) n) ≡ true
+  staged-inside p =
+      ap₂ {C = Bool} inMap (array-cells h (length a) (s .array))
+      (ap₂ {C = List Cell} (λ (x : List ℕ) (i : ℕ). places x (placeAt 0) i) (s .cells) (s .number)
+      ∙ staged-places a k cs 0 allowance (s .control) (s .some) (s .few) (wholes h (s .flat) (s .sound)) (omega (arith, s .number)))
+      ∙ in-map h (s .sound)
+
+  pub staged-run : (r : ℕ) (after : Media) (told : ℕ) → Ran a k₁ n r allowance after told → Stored allowance (batchStores cs r) (media a k) after told
+  staged-run r after told ran =
+      run-stored a k cs r allowance (s .control) (s .some) (s .few) (wholes h (s .flat) (s .sound)) after told
+      (subst₂ (λ (x : List ℕ) (i : ℕ). Ran a x i r allowance after told) (s .cells) (s .number) ran)

@@ -1,0 +1,53 @@
+-- Format: the tree of given counts, and what a formatted module is.
+-- Assumes nothing.
+use Prim.Native.Nat.{ℕ, zero, suc, _*_}
+use mathlib.Core.Bool.{_&&_, not}
+use mathlib.Core.List.{List, [], _∷_, _++_}
+use lib.Dec.{leb}
+use lib.ListN.{length, replicate}
+use Rattle.memory_map.specs.Map.{lines, nodes, shadowCells}
+use Rattle.counter.specs.Counter.{counterBlock}
+use Rattle.tag.specs.Tag.{nodeTag}
+use Rattle.answer.specs.declared.Answer.the-variants.{Done}
+use Rattle.control.specs.Control.{controlLength, freshControl}
+use Rattle.cache.specs.Cache.{emptyCache}
+use Rattle.calls.specs.Path.{childTags}
+use Rattle.calls.specs.Call.{Module, Called, judged, unlike, lengthTests, refuse}
+
+unfoldable pub countsFrom : (ℕ → ℕ) → ℕ → ℕ → List ℕ
+countsFrom f n zero = []
+countsFrom f n (suc k) = f n ∷ countsFrom f (suc n) k
+
+-- the tree of counts: level 0 has blocks of major 0 with the counts as minors, a node the tags of its children
+unfoldable pub freshNode : List ℕ → (ℕ → ℕ) → ℕ → ℕ → List ℕ
+freshNode keys f zero i = counterBlock 0 (countsFrom f (64 * i) 64)
+freshNode keys f (suc l) i = childTags keys l (freshNode keys f l) i
+
+-- the cells of n nodes of level l from node i on, each with zero side bytes
+unfoldable pub nodeCells : List ℕ → ℕ → ℕ → ℕ → List ℕ
+nodeCells keys l i zero = []
+nodeCells keys l i (suc n) = freshNode keys (λ x. 0) l i ++ replicate 8 0 ++ nodeCells keys l (suc i) n
+
+-- the cells of the levels below l, then rest
+unfoldable pub levelCells : List ℕ → ℕ → ℕ → List ℕ → List ℕ
+levelCells keys h zero rest = rest
+levelCells keys h (suc l) rest = levelCells keys h l (nodeCells keys l 0 (nodes h l) ++ rest)
+
+unfoldable pub freshArray : List ℕ → ℕ → List ℕ
+freshArray keys h = replicate (72 * lines h) 0 ++ levelCells keys h (suc h) (replicate (72 * shadowCells h) 0)
+
+abbrev pub freshRoot : List ℕ → (ℕ → ℕ) → ℕ → ℕ
+freshRoot keys f h = nodeTag keys (freshNode keys f h 0) h 0
+
+-- 1 2 3 4 5
+unfoldable pub formatRefusal : List ℕ → ℕ → Module → ℕ
+formatRefusal keys h m = judged
+    ((not (leb 1 h && leb h 3), 1) ∷ (unlike (length keys) 48, 2) ∷ (unlike (length (m .control)) controlLength, 3) ∷ lengthTests h m)
+
+unfoldable pub formatted : List ℕ → ℕ → Called
+formatted keys h =
+    record { answer = Done 0 0; after = record { array = freshArray keys h; control = freshControl h (freshRoot keys (λ x. 0) h); cache = emptyCache h } }
+
+unfoldable pub format : List ℕ → ℕ → Module → Called
+format keys h m =
+    elim (formatRefusal keys h m) [ zero ↦ formatted keys h | suc n ↦ refuse m (suc n) 0 0 ]
