@@ -25,33 +25,34 @@ use Rattle.journal.proofs.Each.{Each, none, more, each-append, each-take}
 use Rattle.journal.proofs.Kept.{Within, within-batch, avoids-batch, stores-apart, made-kept, Formed as Media·Formed}
 use Rattle.calls.specs.Path.{nodeCell, shadowCell, evicted}
 use Rattle.call_laws.specs.Walk.{nodeCells, pathCells, withPath}
-use Rattle.call_laws.proofs.Loads.{Fit, cells-sound, path-few}
+use Rattle.call_laws.proofs.Loads.{Sound, Fit, cells-sound, path-few}
 use Rattle.call_laws.proofs.Loading.{path-same}
 use Rattle.call_laws.proofs.Kept.{wholes, in-map, array-cells}
 
--- ---- an item that no cell of the batch is
+-- a cell that is not the one of an item
+abbrev pub Other : ℕ → Item → Cell → Type 0
+Other h y x = x .number ≡ cellOf h y → ⊥
+
+-- ---- an item that no cell of the path is
 
 module _ (h : ℕ) (c : List ℕ) (f : Formed h c) (p : ℕ) (page : p < pages h) (y : Item) (there : InMap h y)
     (no-shadow : (s : ℕ) → shadow s ≡ y → ⊥)
     (no-owner : (l : ℕ) → l ≤ h → holds c l (onPath p l) ≡ false → dirty c (slotOf l (onPath p l)) ≡ 1 → node l (owner c (slotOf l (onPath p l)) - 1) ≡ y → ⊥) where
-  abbrev Other : Cell → Type 0
-  Other x = x .number ≡ cellOf h y → ⊥
-
   other : (x : Item) → InMap h x → (x ≡ y → ⊥) → cellOf h x ≡ cellOf h y → ⊥
   other x m e q = e (cell-injective h x y m there q)
 
-  node-other : (l : ℕ) → l ≤ h → Each Other (nodeCells h c l (onPath p l))
+  node-other : (l : ℕ) → l ≤ h → Each (Other h y) (nodeCells h c l (onPath p l))
   unfolding nodeCells evicted InMap
   node-other l q = go (holds c l i) refl (eqb (dirty c (slotOf l i)) 1) refl
     where
       i : ℕ
       i = onPath p l
 
-      last : Each Other (shadowCell h (slotOf l i) (suc i) ∷ [])
+      last : Each (Other h y) (shadowCell h (slotOf l i) (suc i) ∷ [])
       last = more {x = shadowCell h (slotOf l i) (suc i)} (other (shadow (slotOf l i)) (slot-within h l i q) (no-shadow (slotOf l i))) none
 
       go : (t : Bool) → holds c l i ≡ t → (u : Bool) → eqb (dirty c (slotOf l i)) 1 ≡ u
-          → Each Other (cond t [] (cond u (nodeCell h l (owner c (slotOf l i) - 1) (content c (slotOf l i)) ∷ []) [] ++ (shadowCell h (slotOf l i) (suc i) ∷ [])))
+          → Each (Other h y) (cond t [] (cond u (nodeCell h l (owner c (slotOf l i) - 1) (content c (slotOf l i)) ∷ []) [] ++ (shadowCell h (slotOf l i) (suc i) ∷ [])))
       go true e u d = none
       go false e true d =
           let one = eqb-true (dirty c (slotOf l i)) 1 d in
@@ -59,64 +60,78 @@ module _ (h : ℕ) (c : List ℕ) (f : Formed h c) (p : ℕ) (page : p < pages h
           (other (node l (owner c (slotOf l i) - 1)) (dirty-owner h c l i f q one .1) (no-owner l q e one)) last
       go false e false d = last
 
-  path-other : (n : ℕ) → n ≤ suc h → Each Other (pathCells h c p n)
+  path-other : (n : ℕ) → n ≤ suc h → Each (Other h y) (pathCells h c p n)
   unfolding pathCells
   path-other zero q = none
   path-other (suc l) q = each-append (node-other l (omega arith)) (path-other l (omega arith))
 
-  pub path-avoids : Each Other (pathCells h c p (suc h))
+  pub path-avoids : Each (Other h y) (pathCells h c p (suc h))
   path-avoids = path-other (suc h) (le-refl (suc h))
 
--- ---- what the stores leave
+-- no cell of the path is a node that it loads
+module _ (h : ℕ) (c : List ℕ) (f : Formed h c) (p : ℕ) (page : p < pages h) where
+  pub line-avoids : (n : ℕ) → n < lines h → Each (Other h (line n)) (pathCells h c p (suc h))
+  unfolding InMap
+  line-avoids n q =
+      path-avoids h c f p page (line n) q (λ s e. let z : _≡_ {A = ℕ} 0 1 = cc in omega arith)
+      (λ l _ _ _ e. let z : _≡_ {A = ℕ} 0 1 = cc in omega arith)
+
+  pub node-avoids : (l : ℕ) → l ≤ h → holds c l (onPath p l) ≡ false → Each (Other h (node l (onPath p l))) (pathCells h c p (suc h))
+  node-avoids l q e =
+      path-avoids h c f p page (node l (onPath p l)) (path-node h p l page q) (λ s z. let w : _≡_ {A = ℕ} 0 1 = cc in omega arith) own
+    where
+      own : (j : ℕ) → j ≤ h → holds c j (onPath p j) ≡ false → dirty c (slotOf j (onPath p j)) ≡ 1
+          → node j (owner c (slotOf j (onPath p j)) - 1) ≡ node l (onPath p l) → ⊥
+      own j b g d z =
+          let level : j ≡ l = cc in
+          let index : owner c (slotOf j (onPath p j)) - 1 ≡ onPath p l = cc in
+          let some-owner = dirty-owner h c j (onPath p j) f b d .0 in
+          false≢true (sym g ∙ owner-holds c j (onPath p j) (omega (arith, ap (onPath p) level)))
+
+-- ---- what the stores of a batch leave
 
 front : (s : List ℕ) (n : ℕ) → part s (72 * n) 64 ≡ take 64 (part s (72 * n) 72)
 front s n = sym (take-take 64 72 (drop (72 * n) s) (lit≤ tt))
 
-module _ (h : ℕ) (low : 1 ≤ h) (high : h ≤ 3) (a k c : List ℕ) (whole : length a ≡ arrayLength h) (record664 : length k ≡ controlLength)
-    (plain : Below 256 a) (plain-k : Below 256 k) (fit : Fit h c) (p : ℕ) (page : p < pages h) (allowance r : ℕ) where
-  abbrev pub after : List ℕ
-  after = storeAll (media a k) (made allowance (batchStores (pathCells h c p (suc h)) r)) .array
+module _ (h : ℕ) (high : h ≤ 3) (a k : List ℕ) (whole : length a ≡ arrayLength h) (record664 : length k ≡ controlLength)
+    (plain : Below 256 a) (plain-k : Below 256 k) (cs : List Cell) (sound : Each (Sound h) cs) (few : length cs ≤ 8) (allowance r : ℕ) where
+  abbrev pub stored : List ℕ
+  stored = storeAll (media a k) (made allowance (batchStores cs r)) .array
 
   formed : Media·Formed (length a) (media a k)
   formed = record { array-length = refl; control-length = record664; array-bytes = plain; control-bytes = plain-k }
 
-  within : Each (Within (length a / 72)) (batchStores (pathCells h c p (suc h)) r)
-  within =
-      let sound = cells-sound h c fit p page (suc h) (le-refl (suc h)) in
-      rw (array-cells h (length a) whole) (within-batch (cells h) r (wholes h high sound) (in-map h sound) (omega (arith, path-few h c fit p page low)))
+  within : Each (Within (length a / 72)) (batchStores cs r)
+  within = rw (array-cells h (length a) whole) (within-batch (cells h) r (wholes h high sound) (in-map h sound) few)
 
-  pub after-length : length after ≡ length a
-  after-length = made-kept allowance formed within .array-length
+  pub stored-length : length stored ≡ length a
+  stored-length = made-kept allowance formed within .array-length
 
-  kept : (y : Item) → InMap h y → ((s : ℕ) → shadow s ≡ y → ⊥)
-      → ((l : ℕ) → l ≤ h → holds c l (onPath p l) ≡ false → dirty c (slotOf l (onPath p l)) ≡ 1 → node l (owner c (slotOf l (onPath p l)) - 1) ≡ y → ⊥)
-      → part after (72 * cellOf h y) 72 ≡ part a (72 * cellOf h y) 72
-  kept y m s o =
-      stores-apart (cellOf h y) formed (each-take allowance within)
-      (each-take allowance (avoids-batch (cellOf h y) r (path-avoids h c (fit .formed) p page y m s o)))
+  pub content-kept : (y : Item) → Each (Other h y) cs → cellContent stored (cellOf h y) ≡ cellContent a (cellOf h y)
+  unfolding cellContent
+  content-kept y e =
+      let n = cellOf h y in
+      let same = stores-apart n formed (each-take allowance within) (each-take allowance (avoids-batch n r e)) in
+      front stored n ∙ ap (take 64) same ∙ sym (front a n)
 
-  pub line-kept : (n : ℕ) → n < lines h → part after (72 * n) 72 ≡ part a (72 * n) 72
-  unfolding InMap cellOf
-  line-kept n q =
-      kept (line n) q (λ s e. let z : _≡_ {A = ℕ} 0 1 = cc in omega arith) (λ l _ _ _ e. let z : _≡_ {A = ℕ} 0 1 = cc in omega arith)
+-- ---- of the path's own batch
+
+module _ (h : ℕ) (low : 1 ≤ h) (high : h ≤ 3) (a k c : List ℕ) (whole : length a ≡ arrayLength h) (record664 : length k ≡ controlLength)
+    (plain : Below 256 a) (plain-k : Below 256 k) (fit : Fit h c) (p : ℕ) (page : p < pages h) (allowance r : ℕ) where
+  abbrev after : List ℕ
+  after = storeAll (media a k) (made allowance (batchStores (pathCells h c p (suc h)) r)) .array
+
+  kept : (y : Item) → Each (Other h y) (pathCells h c p (suc h)) → cellContent after (cellOf h y) ≡ cellContent a (cellOf h y)
+  kept =
+      content-kept h high a k whole record664 plain plain-k (pathCells h c p (suc h)) (cells-sound h c fit p page (suc h) (le-refl (suc h)))
+      (omega (arith, path-few h c fit p page low)) allowance r
 
   pub line-content : (n : ℕ) → n < lines h → cellContent after n ≡ cellContent a n
-  unfolding cellContent
-  line-content n q = front after n ∙ ap (take 64) (line-kept n q) ∙ sym (front a n)
-
-  node-kept : (l : ℕ) → l ≤ h → holds c l (onPath p l) ≡ false → cellContent after (cellOf h (node l (onPath p l))) ≡ cellContent a (cellOf h (node l (onPath p l)))
-  unfolding cellContent
-  node-kept l q e =
-      let n = cellOf h (node l (onPath p l)) in
-      front after n ∙ ap (take 64) (kept (node l (onPath p l)) (path-node h p l page q) (λ s z. let w : _≡_ {A = ℕ} 0 1 = cc in omega arith) own) ∙ sym (front a n)
-    where
-      own : (j : ℕ) → j ≤ h → holds c j (onPath p j) ≡ false → dirty c (slotOf j (onPath p j)) ≡ 1 → node j (owner c (slotOf j (onPath p j)) - 1) ≡ node l (onPath p l) → ⊥
-      own j b f d z =
-          let level : j ≡ l = cc in
-          let index : owner c (slotOf j (onPath p j)) - 1 ≡ onPath p l = cc in
-          let some-owner = dirty-owner h c j (onPath p j) (fit .formed) b d .0 in
-          false≢true (sym f ∙ owner-holds c j (onPath p j) (omega (arith, ap (onPath p) level)))
+  unfolding cellOf
+  line-content n q = kept (line n) (line-avoids h c (fit .formed) p page n q)
 
   -- the cache with the path, from the array after the stores
   pub path-kept : withPath h after p (suc h) c ≡ withPath h a p (suc h) c
-  path-kept = path-same h high [] a whole r p page c (fit .sized) after node-kept
+  path-kept =
+      path-same h high [] a whole r p page c (fit .sized) after
+      (λ l q e. kept (node l (onPath p l)) (node-avoids h c (fit .formed) p page l q e))

@@ -1,0 +1,240 @@
+-- The batch of a write, run under an allowance, and the cache after it. Assumes nothing.
+use mathlib.Core.Path.{_≡_, refl, sym, ap, ap₂, _∙_, subst}
+use mathlib.Core.Bool.{Bool, true, false, cond}
+use mathlib.Core.List.{List, [], _∷_, _++_}
+use Prim.Native.Nat.{ℕ, zero, suc, _+_, _*_, _%_, _≤_, _<_, zero-le}
+use native.Mathlib.Nat.{le-refl, zero-add}
+use native.Mathlib.Omega.{arith}
+use lib.Dec.{eqb, lit<}
+use lib.ListN.{length, getD, length-append}
+use Rattle.words.specs.Bytes.{toLe, put}
+use Rattle.words.proofs.Digits.{Below, below-append, below-cons, below-digits}
+use Rattle.memory_map.specs.Map.{pages, lines, cells, pageOf, onPath, cellOf, InMap}
+use Rattle.memory_map.specs.Map.Item.{line, node}
+use Rattle.memory_map.proofs.Laws.{cell-within, cell-injective, page-node, path-node, path-top}
+use Rattle.slot_map.specs.Slots.{cacheLength, slotOf}
+use Rattle.counter.specs.Counter.{phaseOf}
+use Rattle.pad.specs.Pad.{pad, xorBytes}
+use Rattle.pad.proofs.Nonce.{below-pad}
+use Rattle.pad.proofs.Xor.{below-xor}
+use Rattle.tag.specs.Tag.{nodeTag}
+use Rattle.answer.specs.declared.Answer.the-variants.{Done, Cut}
+use Rattle.control.specs.Control.{Cell}
+use Rattle.batch.specs.Batch.{staged, stagedFrom}
+use Rattle.batch.proofs.Laws.{staged-one, staged-append}
+use Rattle.cache.specs.Cache.{content, cellContent, withSlot, holds, current}
+use Rattle.journal.specs.Journal.{Store, Media, media, storeAll, batchStores, Stored, made as takes}
+use Rattle.journal.proofs.Each.{Each, none, more, each-append}
+use Rattle.journal.proofs.Laws.{length-batch}
+use Rattle.journal.proofs.Steps.{Ran}
+use Rattle.calls.specs.Path.{nodeCell, renewed, renewPath, renewedRoot}
+use Rattle.calls.specs.Call.{Module, Called, buffers, ended, storing}
+use Rattle.calls.specs.Read.{sideBytes}
+use Rattle.call_laws.specs.Walk.{pathCells, withPath}
+use Rattle.call_laws.proofs.Loads.{Sound, sound-node, cells-sound}
+use Rattle.call_laws.proofs.Loading.{path-content, path-length}
+use Rattle.call_laws.proofs.Apart.{Other, node-avoids, stored-length, content-kept}
+use Rattle.call_laws.proofs.Staged.{Staged, staged-run}
+use Rattle.call_laws.proofs.Storing.{storing-cut, storing-done, all-told}
+use Rattle.path.proofs.Ready.{Ready, fit, few}
+use Rattle.write.specs.Parts.{lineCell, blockCells, lineCells, renewedTag, renewedBy}
+use Rattle.write.proofs.Laws.{line-cell-length}
+use Rattle.write.proofs.Held.{path-owners, path-over, renewed-over}
+
+pub cells-length : (h : ℕ) (keys c : List ℕ) (n : ℕ) (text : List ℕ) (ma mi : ℕ) (b : List ℕ)
+    → length (lineCells h keys c n text ma mi b) ≡ length (pathCells h c (pageOf n) (suc h)) + length (blockCells h (pageOf n) mi b) + 1
+unfolding lineCells
+cells-length h keys c n text ma mi b =
+    let x = pathCells h c (pageOf n) (suc h) in
+    let y = blockCells h (pageOf n) mi b in
+    length-append (x ++ y) (lineCell keys n text ma mi ∷ []) ∙ ap (λ (m : ℕ). m + 1) (length-append x y)
+
+-- what is staged step by step: the path, the block, the data cell
+module _ (h : ℕ) (keys c : List ℕ) (n : ℕ) (text : List ℕ) (ma mi : ℕ) (b : List ℕ) (allowance : ℕ) (p : ℕ) (page : p ≡ pageOf n) where
+  pub gathered : (k k₁ k₂ k₃ : List ℕ) (i j : ℕ)
+      → k₁ ≡ stagedFrom allowance 0 (pathCells h c p (suc h)) k → i ≡ length (pathCells h c p (suc h))
+      → k₂ ≡ stagedFrom allowance i (blockCells h p mi b) k₁ → j ≡ i + length (blockCells h p mi b)
+      → k₃ ≡ staged allowance j (lineCell keys n text ma mi) k₂
+      → (k₃ ≡ stagedFrom allowance 0 (lineCells h keys c n text ma mi b) k) × (j + 1 ≡ length (lineCells h keys c n text ma mi b))
+  unfolding lineCells
+  gathered k k₁ k₂ k₃ i j e₁ n₁ e₂ n₂ e₃ =
+      let x = pathCells h c (pageOf n) (suc h) in
+      let y = blockCells h (pageOf n) mi b in
+      let z = lineCell keys n text ma mi in
+      let first : i ≡ 0 + length x = n₁ ∙ ap (λ (q : ℕ). length (pathCells h c q (suc h))) page ∙ sym (zero-add (length x)) in
+      let second : j ≡ i + length y = n₂ ∙ ap (λ (q : ℕ). i + length (blockCells h q mi b)) page in
+      let two : k₂ ≡ stagedFrom allowance 0 (x ++ y) k =
+      e₂ ∙ ap (λ (q : ℕ). stagedFrom allowance i (blockCells h q mi b) k₁) page
+      ∙ ap₂ {C = List ℕ} (λ (m : ℕ) (w : List ℕ). stagedFrom allowance m y w) first
+      (e₁ ∙ ap (λ (q : ℕ). stagedFrom allowance 0 (pathCells h c q (suc h)) k) page)
+      ∙ sym (staged-append allowance 0 x y k) in
+      let at : j ≡ 0 + length (x ++ y) = omega (arith, length-append x y) in (
+        e₃ ∙ staged-one allowance j z k₂ ∙ ap₂ {C = List ℕ} (λ (m : ℕ) (w : List ℕ). stagedFrom allowance m (z ∷ []) w) at two
+            ∙ sym (staged-append allowance 0 (x ++ y) (z ∷ []) k),
+        omega (arith, length-append (x ++ y) (z ∷ [])),
+      )
+
+-- a line of the map, its text and the counter block to be
+pub record Lent (h n : ℕ) (text b : List ℕ) : Type 0 where
+  pub inside : n < lines h
+  pub full : length text ≡ 64
+  pub text-bytes : Below 256 text
+  pub wide : length b ≡ 64
+  pub block-bytes : Below 256 b
+
+module _ {h : ℕ} {a k c : List ℕ} {n : ℕ} (y : Ready h a k c (pageOf n)) (keys : List ℕ) {text b : List ℕ} (v : Lent h n text b) (ma mi : ℕ) where
+  abbrev p : ℕ
+  p = pageOf n
+
+  abbrev cs : List Cell
+  cs = lineCells h keys c n text ma mi b
+
+  -- ---- its cells are sound, and at most eight
+
+  data-sound : Sound h (lineCell keys n text ma mi)
+  unfolding lineCell InMap cellOf
+  data-sound =
+      let x = xorBytes text (pad keys n ma mi) in
+      record {
+        inside = cell-within h (line n) (v .inside);
+        size = line-cell-length keys n text ma mi (v .full);
+        bytes =
+            below-append x (sideBytes keys x n ma mi) (below-xor text (pad keys n ma mi) (v .text-bytes) (below-pad keys n ma mi))
+            (below-cons (omega arith) (below-digits 256 7 _ (lit< tt)));
+      }
+
+  block-sound : (t : Bool) → Each (Sound h) (cond t (nodeCell h 0 p b ∷ []) [])
+  block-sound true = more (sound-node h 0 p b (page-node h n (v .inside)) (v .wide) (v .block-bytes)) none
+  block-sound false = none
+
+  block-few : (t : Bool) → length (cond t (nodeCell h 0 p b ∷ []) []) ≤ 1
+  block-few true = le-refl 1
+  block-few false = zero-le
+
+  batch-sound : Each (Sound h) cs
+  unfolding lineCells blockCells
+  batch-sound =
+      each-append (each-append (cells-sound h c (fit y) p (y .page) (suc h) (le-refl (suc h))) (block-sound (eqb (phaseOf mi) 0))) (more data-sound none)
+
+  pub batch-length : (1 ≤ length cs) × (length cs ≤ 8)
+  unfolding blockCells
+  batch-length =
+      let all = cells-length h keys c n text ma mi b in
+      (omega (arith, all), omega (arith, all, few y, y .sized .flat, block-few (eqb (phaseOf mi) 0)))
+
+  -- ---- none of them is a node above the block that the path loads
+
+  block-other : (l : ℕ) → 1 ≤ l → l ≤ h → (t : Bool) → Each (Other h (node l (onPath p l))) (cond t (nodeCell h 0 p b ∷ []) [])
+  block-other l q lh true =
+      more {x = nodeCell h 0 p b}
+      (λ e. let same = cell-injective h (node 0 p) (node l (onPath p l)) (page-node h n (v .inside)) (path-node h p l (y .page) lh) e in
+      let z : 0 ≡ l = cc in omega arith)
+      none
+  block-other l q lh false = none
+
+  data-other : (l : ℕ) → l ≤ h → Other h (node l (onPath p l)) (lineCell keys n text ma mi)
+  unfolding lineCell InMap cellOf
+  data-other l lh e =
+      let same = cell-injective h (line n) (node l (onPath p l)) (v .inside) (path-node h p l (y .page) lh) e in
+      let z : _≡_ {A = ℕ} 0 1 = cc in omega arith
+
+  batch-other : (l : ℕ) → 1 ≤ l → l ≤ h → holds c l (onPath p l) ≡ false → Each (Other h (node l (onPath p l))) cs
+  unfolding lineCells blockCells
+  batch-other l q lh e =
+      each-append (each-append (node-avoids h c (fit y .formed) p (y .page) l lh e) (block-other l q lh (eqb (phaseOf mi) 0)))
+      (more {x = lineCell keys n text ma mi} (data-other l lh) none)
+
+  -- ---- the path with its tags
+
+  abbrev d : List ℕ
+  d = withPath h a p (suc h) c
+
+  d-content : (l : ℕ) → l ≤ h → content d (slotOf l (onPath p l)) ≡ current h a c l (onPath p l)
+  d-content = path-content h (y .sized .flat) keys a (y .sized .array) 0 p (y .page) c (y .sized .cache)
+
+  tag-renewed : (l : ℕ) → l ≤ h → renewedTag h keys a c p b l ≡ nodeTag keys (renewed keys d p b l) l (onPath p l)
+  unfolding renewedTag renewed
+  tag-renewed zero q = refl
+  tag-renewed (suc l) q =
+      ap₂ (λ (x : List ℕ) (t : ℕ). nodeTag keys (put x (8 * (onPath p l % 8)) (toLe 8 t)) (suc l) (onPath p (suc l)))
+      (sym (d-content (suc l) q)) (tag-renewed l (omega arith))
+
+  module _ (tags : List ℕ) (known : (l : ℕ) → l ≤ h → getD tags l 0 ≡ renewedTag h keys a c p b l) where
+    pub root-renewed : getD tags h 0 ≡ renewedRoot h keys d p b
+    root-renewed = known h (le-refl h) ∙ tag-renewed h (le-refl h) ∙ ap (nodeTag keys (renewed keys d p b h) h) (path-top h p (y .page))
+
+    renewed-path : (f l : ℕ) → l ≤ h → renewedBy d p b f tags l ≡ renewPath keys d p b f l
+    unfolding renewedBy renewPath renewed
+    renewed-path f zero q = refl
+    renewed-path f (suc l) q =
+        ap₂ {C = List ℕ} (λ (x : List ℕ) (t : ℕ). withSlot x (slotOf (suc l) (onPath p (suc l))) (suc (onPath p (suc l))) 1
+        (put (content d (slotOf (suc l) (onPath p (suc l)))) (8 * (onPath p l % 8)) (toLe 8 t)))
+        (renewed-path f l (omega arith)) (known l (omega arith) ∙ tag-renewed l (omega arith))
+
+    -- ---- staged, and run
+
+    module _ (allowance : ℕ) (k₁ : List ℕ) (m : ℕ) (held : k₁ ≡ stagedFrom allowance 0 cs k) (number : m ≡ length cs) where
+      pub staging : Staged h allowance a k cs k₁ m
+      staging =
+          record {
+            flat = y .sized .flat;
+            array = y .sized .array;
+            control = y .control;
+            sound = batch-sound;
+            some = batch-length .0;
+            few = batch-length .1;
+            cells = held;
+            number = number;
+          }
+
+      abbrev xs : List Store
+      xs = batchStores cs (renewedRoot h keys d p b)
+
+      abbrev called : ℕ → Called
+      called f = storing allowance (buffers a k c) xs (Done (length xs) 0) (renewPath keys d p b f h)
+
+      module _ (r : ℕ) (top : r ≡ getD tags h 0) (a' k' : List ℕ) (told : ℕ) (ran : Ran a k₁ m r allowance (media a' k') told) where
+        made : Stored allowance xs (media a k) (media a' k') told
+        made =
+            subst (λ (z : ℕ). Stored allowance (batchStores cs z) (media a k) (media a' k') told) (top ∙ root-renewed)
+            (staged-run staging r (media a' k') told ran)
+
+        many : length xs ≡ 2 * m + 3
+        many = length-batch cs (renewedRoot h keys d p b) (batch-length .0) ∙ ap (λ (i : ℕ). 2 * i + 3) (sym number)
+
+        pub write-cut : (f : ℕ) → told < 2 * m + 3 → ended (Cut told) a' k' c ≡ called f
+        write-cut f q = storing-cut allowance (buffers a k c) xs (Done (length xs) 0) (renewPath keys d p b f h) a' k' told made (omega (arith, many))
+
+        abbrev d' : List ℕ
+        d' = withPath h a' p (suc h) c
+
+        array-is : a' ≡ storeAll (media a k) (takes allowance xs) .array
+        array-is = ap (λ (x : Media). x .array) (made .left)
+
+        pub whole' : length a' ≡ length a
+        whole' =
+            ap length array-is
+            ∙ stored-length h (y .sized .flat) a k (y .sized .array) (y .control) (y .array-bytes) (y .control-bytes) cs batch-sound (batch-length .1) allowance
+            (renewedRoot h keys d p b)
+
+        kept : (l : ℕ) → 1 ≤ l → l ≤ h → holds c l (onPath p l) ≡ false
+            → cellContent a' (cellOf h (node l (onPath p l))) ≡ cellContent a (cellOf h (node l (onPath p l)))
+        kept l q lh e =
+            ap (λ (x : List ℕ). cellContent x (cellOf h (node l (onPath p l)))) array-is
+            ∙ content-kept h (y .sized .flat) a k (y .sized .array) (y .control) (y .array-bytes) (y .control-bytes) cs batch-sound (batch-length .1) allowance
+            (renewedRoot h keys d p b) (node l (onPath p l)) (batch-other l q lh e)
+
+        -- loaded from the array after the stores, and renewed
+        same-renewed : (f : ℕ) → renewedBy d' p b f tags h ≡ renewPath keys d p b f h
+        same-renewed f =
+            renewed-over h (y .sized .flat) p (y .page) b (v .wide) f tags d' d
+            (path-length h (y .sized .flat) keys a' (whole' ∙ y .sized .array) 0 p (y .page) c (y .sized .cache))
+            (path-length h (y .sized .flat) keys a (y .sized .array) 0 p (y .page) c (y .sized .cache))
+            (path-over h (y .sized .flat) p (y .page) b (v .wide) f a a' c (y .sized .array) (whole' ∙ y .sized .array) kept (y .sized .cache)) h (le-refl h)
+            ∙ renewed-path f h (le-refl h)
+
+        pub write-done : (f : ℕ) → 2 * m + 3 ≤ told → (c' : List ℕ) → c' ≡ renewedBy d' p b f tags h → ended (Done told 0) a' k' c' ≡ called f
+        write-done f q c' e =
+            let all = all-told allowance (buffers a k c) xs (Done (length xs) 0) (renewPath keys d p b f h) a' k' told made (omega (arith, many)) in
+            ap₂ {C = Called} (λ (i : ℕ) (l : List ℕ). ended (Done i 0) a' k' l) all (e ∙ same-renewed f)
+            ∙ storing-done allowance (buffers a k c) xs (Done (length xs) 0) (renewPath keys d p b f h) a' k' told made (omega (arith, many))

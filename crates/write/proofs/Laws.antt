@@ -1,0 +1,149 @@
+-- Laws of a write's steps: the tags of the renewed path, the data cell, and the batch. Assumes nothing.
+use mathlib.Core.Path.{_≡_, refl, sym, ap, ap₂, _∙_, subst}
+use mathlib.Core.Logic.{_⊎_, inl, inr}
+use mathlib.Core.List.{List, [], _∷_, _++_}
+use Prim.Native.Nat.{ℕ, suc, _+_, _-_, _*_, _/_, _%_, _^_, _≤_, _<_}
+use native.Mathlib.Nat.{zero-add, le-refl}
+use native.Mathlib.Numerals.{add-one}
+use native.Mathlib.Omega.{arith}
+use borrow.Author.Tests.{lt-ltb, eq-eqb, ne-eqb}
+use lib.ListN.{length, getD, set, take, drop, length-set, length-append}
+use lib.Seq.{take-at, getD-set-same, getD-set-other}
+use Rattle.words.specs.Bytes.{digits, toLe, put}
+use Rattle.words.proofs.Digits.{length-digits}
+use Rattle.words.proofs.Order.{lt-eq-gt}
+use Rattle.words.proofs.Parts.{put-append, put-all}
+use Rattle.words.proofs.Puts.{part-put}
+use Rattle.memory_map.specs.Map.{onPath, cellOf}
+use Rattle.memory_map.specs.Map.Item.{node}
+use Rattle.memory_map.proofs.Laws.{path-bottom}
+use Rattle.pad.specs.Pad.{pad, xorBytes}
+use Rattle.pad.proofs.Nonce.{length-pad}
+use Rattle.pad.proofs.Xor.{length-xor}
+use Rattle.tag.specs.Tag.{nodeTag, dataTag}
+use Rattle.tag.proofs.Tags.{dataTag-lt}
+use Rattle.control.specs.Control.{Cell, controlLength, placeAt}
+use Rattle.batch.specs.Batch.{cellWith, staged, stagedFrom}
+use Rattle.batch.proofs.Laws.{staged-none, staged-one}
+use Rattle.cache.specs.Cache.{current}
+use Rattle.calls.specs.Path.{nodeCell}
+use Rattle.calls.specs.Read.{sideBytes}
+use Rattle.write.specs.Parts.{lineCell, blockCells, renewedTag}
+
+-- ---- the tags of the path
+
+-- those of levels 0 to l are known
+pub record Tagging (h : ℕ) (keys a c : List ℕ) (p : ℕ) (b tags : List ℕ) (tag l : ℕ) : Type 0 where
+  pub levels : l ≤ h
+  pub size : length tags ≡ 4
+  pub known : (k : ℕ) → k ≤ l → getD tags k 0 ≡ renewedTag h keys a c p b k
+  pub last : tag ≡ renewedTag h keys a c p b l
+
+module _ (h : ℕ) (high : h ≤ 3) (keys a c : List ℕ) (p : ℕ) (b : List ℕ) where
+  pub tagging-first : (tags : List ℕ) (t : ℕ) → length tags ≡ 4 → t ≡ nodeTag keys b 0 p → Tagging h keys a c p b (set tags 0 t) t 0
+  unfolding renewedTag
+  tagging-first tags t e f =
+      record { levels = omega arith; size = length-set tags 0 t ∙ e; known = λ k q. at k (omega arith); last = bottom }
+    where
+      bottom : t ≡ renewedTag h keys a c p b 0
+      bottom = f ∙ ap (nodeTag keys b 0) (sym (path-bottom p))
+
+      at : (k : ℕ) → k ≡ 0 → getD (set tags 0 t) k 0 ≡ renewedTag h keys a c p b k
+      at k z = subst (λ (i : ℕ). getD (set tags 0 t) i 0 ≡ renewedTag h keys a c p b i) (sym z) (getD-set-same tags 0 t 0 (omega arith) ∙ bottom)
+
+  module _ {tags : List ℕ} {tag l : ℕ} (g : Tagging h keys a c p b tags tag l) (below : l < h) (child i t : ℕ) (x : List ℕ) (low : child ≡ onPath p l)
+      (up : i ≡ onPath p (l + 1)) (content : x ≡ current h a c (l + 1) i) (new : t ≡ nodeTag keys (put x (8 * (child % 8)) (toLe 8 tag)) (l + 1) i) where
+    next-tag : t ≡ renewedTag h keys a c p b (l + 1)
+    unfolding renewedTag
+    next-tag =
+        new
+        ∙ ap₂ (λ (y : List ℕ) (j : ℕ). nodeTag keys (put y (8 * (j % 8)) (toLe 8 tag)) (l + 1) i) (content ∙ ap (current h a c (l + 1)) up) low
+        ∙ ap₂ (λ (z j : ℕ). nodeTag keys (put (current h a c (l + 1) (onPath p (l + 1))) (8 * (onPath p l % 8)) (toLe 8 z)) (l + 1) j) (g .last) up
+        ∙ ap (λ (k : ℕ). nodeTag keys (put (current h a c k (onPath p k)) (8 * (onPath p l % 8)) (toLe 8 (renewedTag h keys a c p b l))) k (onPath p k)) (add-one l)
+        ∙ ap (renewedTag h keys a c p b) (sym (add-one l))
+
+    pub tagging-next : Tagging h keys a c p b (set tags (l + 1) t) t (l + 1)
+    tagging-next =
+        record { levels = omega arith; size = length-set tags (l + 1) t ∙ g .size; known = λ k q. at k q (lt-eq-gt k (l + 1)); last = next-tag }
+      where
+        at : (k : ℕ) → k ≤ l + 1 → (k < l + 1) ⊎ ((k ≡ l + 1) ⊎ (l + 1 < k)) → getD (set tags (l + 1) t) k 0 ≡ renewedTag h keys a c p b k
+        at k q (inl r) = getD-set-other tags (l + 1) k t 0 (λ e. omega arith) ∙ g .known k (omega arith)
+        at k q (inr (inl e)) =
+            subst (λ (j : ℕ). getD (set tags (l + 1) t) j 0 ≡ renewedTag h keys a c p b j) (sym e)
+            (getD-set-same tags (l + 1) t 0 (omega (arith, g .size)) ∙ next-tag)
+        at k q (inr (inr r)) = absurd (omega arith)
+
+-- ---- the data cell
+
+pub tag-small : (keys b : List ℕ) (line ma mi : ℕ) {t : ℕ} → t ≡ dataTag keys b line ma mi → t < 2 ^ 56
+tag-small keys b line ma mi e = omega (arith, dataTag-lt keys b line ma mi)
+
+module _ (keys : List ℕ) (line : ℕ) (text : List ℕ) (ma mi : ℕ) (size : length text ≡ 64) where
+  abbrev sealed : List ℕ
+  sealed = xorBytes text (pad keys line ma mi)
+
+  pub sealed-length : length sealed ≡ 64
+  sealed-length = length-xor text (pad keys line ma mi) (rw (length-pad, size) (le-refl 64)) ∙ size
+
+  pub side-digits : (t : ℕ) → t ≡ dataTag keys sealed line ma mi → toLe 8 (mi % 4 + 256 * t) ≡ sideBytes keys sealed line ma mi
+  unfolding digits
+  side-digits t e =
+      let low : (mi % 4 + 256 * t) % 256 ≡ mi % 4 = omega arith in
+      let high : (mi % 4 + 256 * t) / 256 ≡ dataTag keys sealed line ma mi = omega arith in
+      ap₂ {C = List ℕ} (λ (x y : ℕ). x ∷ toLe 7 y) low high
+
+  -- the content, and the side bytes behind it
+  pub seal-bytes : (cell b : List ℕ) (t : ℕ) → length cell ≡ 72 → b ≡ sealed → t ≡ dataTag keys (take 64 (b ++ drop 64 cell)) line ma mi
+      → put (b ++ drop 64 cell) 64 (toLe 8 (mi % 4 + 256 * t)) ≡ lineCell keys line text ma mi .bytes
+  unfolding lineCell
+  seal-bytes cell b t l e f =
+      let w = toLe 8 (mi % 4 + 256 * t) in
+      let wide = length-digits 256 8 (mi % 4 + 256 * t) in
+      let full : length b ≡ 64 = ap length e ∙ sealed-length in
+      ap (λ (x : List ℕ). put x 64 w) (part-put cell 0 b 64 full) ∙ ap (λ (i : ℕ). put (put cell 0 b) i w) (sym (zero-add 64) ∙ ap (λ (i : ℕ). 0 + i) (sym full))
+      ∙ put-append cell 0 b w (omega arith) ∙ put-all cell (b ++ w) (rw length-append (omega arith))
+      ∙ ap₂ {C = List ℕ} _++_ e (side-digits t (f ∙ ap (λ (x : List ℕ). dataTag keys x line ma mi) (take-at b (drop 64 cell) 64 full ∙ e)))
+
+-- number and cell, one after the other, where the allowance goes that far
+pub line-put : (k : List ℕ) (n allowance : ℕ) (c : Cell) → length k ≡ controlLength → n < 8 → n < allowance → length (c .bytes) ≡ 72 → (at : ℕ) → at ≡ placeAt n
+    → put (put k at (toLe 8 (c .number))) (at + 8) (c .bytes) ≡ staged allowance n c k
+unfolding staged
+line-put k n allowance c size few within full at e =
+    let w = length-digits 256 8 (c .number) in
+    ap (λ (i : ℕ). put (put k at (toLe 8 (c .number))) (at + i) (c .bytes)) (sym w)
+    ∙ put-append k at (toLe 8 (c .number)) (c .bytes) (omega arith) ∙ ap (λ (i : ℕ). put k i (toLe 8 (c .number) ++ c .bytes)) e ∙ rw (lt-ltb n allowance within)
+
+pub line-cell-length : (keys : List ℕ) (line : ℕ) (text : List ℕ) (ma mi : ℕ) → length text ≡ 64 → length (lineCell keys line text ma mi .bytes) ≡ 72
+unfolding lineCell
+line-cell-length keys line text ma mi e =
+    let b = xorBytes text (pad keys line ma mi) in
+    length-append b (sideBytes keys b line ma mi) ∙ omega (arith, sealed-length keys line text ma mi e, length-digits 256 7 (dataTag keys b line ma mi))
+
+-- ---- the counter block
+
+-- what the block adds to n staged cells
+pub record Blocked (h p mi : ℕ) (b : List ℕ) (allowance : ℕ) (before after : List ℕ) (n m : ℕ) : Type 0 where
+  pub cells : after ≡ stagedFrom allowance n (blockCells h p mi b) before
+  pub number : m ≡ n + length (blockCells h p mi b)
+
+module _ (h p mi : ℕ) (b : List ℕ) (allowance : ℕ) (before : List ℕ) (n : ℕ) where
+  pub block-none : (mi % 4 ≡ 0 → ⊥) → Blocked h p mi b allowance before before n n
+  unfolding blockCells
+  block-none e =
+      let none : blockCells h p mi b ≡ [] = rw (ne-eqb (mi % 4) 0 e) in
+      record {
+        cells = staged-none allowance n before ∙ ap (λ (x : List Cell). stagedFrom allowance n x before) (sym none);
+        number = omega (arith, ap length none);
+      }
+
+  pub block-some : mi % 4 ≡ 0 → (after : List ℕ) (x : ℕ) → x ≡ cellOf h (node 0 p) → after ≡ staged allowance n (cellWith x b 0) before
+      → Blocked h p mi b allowance before after n (n + 1)
+  unfolding blockCells digits
+  block-some e after x f g =
+      let one : blockCells h p mi b ≡ nodeCell h 0 p b ∷ [] = rw (eq-eqb (mi % 4) 0 e) in
+      record {
+        cells =
+            g ∙ ap (λ (y : ℕ). staged allowance n (cellWith y b 0) before) f ∙ staged-one allowance n (nodeCell h 0 p b) before
+            ∙ ap (λ (z : List Cell). stagedFrom allowance n z before) (sym one);
+        number = sym (ap (λ (z : List Cell). n + length z) one);
+      }

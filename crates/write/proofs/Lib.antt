@@ -1,0 +1,5 @@
+pub mod Laws
+pub mod Renewing
+pub mod Held
+pub mod Batch
+pub mod Writing
