@@ -9,27 +9,29 @@ use native.Mathlib.Omega.{arith}
 use lib.ListN.{length, getD, set, take, drop, length-take, drop-of-length-le}
 use lib.Seq.{drop-cons, getD-take, length-take-le, take-all}
 use Rattle.words.specs.Bytes.{toLe, put}
-use Rattle.memory_map.specs.Map.{InMap, cellOf, slots, nodes}
+use Rattle.memory_map.specs.Map.{InMap, cellOf, slots, nodes, lines, arrayLength}
 use Rattle.memory_map.specs.Map.Item.{node}
-use Rattle.slot_map.specs.Slots.{levelOf}
+use Rattle.memory_map.proofs.Laws.{in-map-node, nodes-bottom, nodes-small}
+use Rattle.slot_map.specs.Slots.{levelOf, cacheLength}
 use Rattle.slot_map.proofs.Laws.{belongs-node, level-within}
 use Rattle.counter.specs.Counter.{major, minors, counterBlock}
 use Rattle.counter.proofs.Laws.{length-counterBlock}
 use Rattle.cache.specs.Cache.{withSlot, cellContent}
-use Rattle.node.proofs.Laws.{slot-put}
-use Rattle.calls.specs.Recovery.{Rebuilt, rebuilt, damaged, forwardFrom, total, rebuildBlock, rebuildSlot, rebuildBlocks, rebuildNode, rebuildNodes}
+use Rattle.node.proofs.Laws.{slot-put, line-room}
+use Rattle.calls.specs.Recovery.{Rebuilt, rebuilt, damaged, forwardFrom, phaseByte, total, rebuildBlock, rebuildSlot, rebuildBlocks, rebuildNode, rebuildNodes}
 use Rattle.recovery.specs.Rebuild.{Placed}
+use Rattle.recovery.proofs.Forward.{Forwarding, forwarding-fails, forwarding-all, forwarding-sum, forwarded}
 
 -- the owners from slot s on, of n
 abbrev pub left : List ℕ → ℕ → ℕ → List ℕ
 left os n s = drop s (take n os)
 
-left-next : (os : List ℕ) (n s : ℕ) → s < n → n ≤ length os → left os n s ≡ getD os s 0 ∷ left os n (s + 1)
+pub left-next : (os : List ℕ) (n s : ℕ) → s < n → n ≤ length os → left os n s ≡ getD os s 0 ∷ left os n (s + 1)
 left-next os n s p q =
     drop-cons (take n os) s 0 (rw (length-take-le n os q) p)
     ∙ ap₂ {C = List ℕ} (λ (x k : ℕ). x ∷ drop k (take n os)) (getD-take n os s 0 p) (sym (add-one s))
 
-left-none : (os : List ℕ) (n s : ℕ) → n ≤ s → left os n s ≡ []
+pub left-none : (os : List ℕ) (n s : ℕ) → n ≤ s → left os n s ≡ []
 left-none os n s p = drop-of-length-le (take n os) (let end : length (take n os) ≤ s = rw (length-take n os) (omega arith) in end)
 
 -- a block written into a slot
@@ -49,58 +51,99 @@ placed-node h os f s (suc i) p e q =
     let same : suc i - 1 ≡ i = omega arith in
     (level-within h s p, rw same (at .0))
 
+-- a line of a page of the map
+pub page-line : (h : ℕ) (a : List ℕ) (p j : ℕ) → length a ≡ arrayLength h → InMap h (node 0 p) → j < 64 → 72 * (64 * p + j) + 72 ≤ length a
+unfolding lines
+page-line h a p j size m q = line-room h a (64 * p + j) size (omega (arith, in-map-node h 0 p m .1, nodes-bottom h))
+
+pub page-small : {h : ℕ} (p : ℕ) → InMap h (node 0 p) → h ≤ 3 → p < 512
+page-small {h} p m q = omega (arith, in-map-node h 0 p m .1, nodes-small {h = h} 0 refl q)
+
 -- an owner that is not 0
 pub filled : (o : ℕ) → (o ≡ 0 → ⊥) → o ≡ suc (o - 1)
 filled o p = omega arith
 
-module _ (h : ℕ) (a os : List ℕ) (size : length os ≡ 10) where
+module _ (h : ℕ) (a os : List ℕ) where
   -- what is left to do from slot s on
   abbrev pub blocksFrom : ℕ → List ℕ → ℕ → Rebuilt
   blocksFrom s c sum = rebuildBlocks h a s (left os 4 s) c sum
 
-  module _ (s : ℕ) (p : s < 4) (c : List ℕ) (sum : ℕ) where
-    slot-then : {r : Rebuilt} → rebuildSlot h a c sum s (getD os s 0) ≡ r
-        → blocksFrom s c sum ≡ elim r as (λ z. Rebuilt) [ damaged ↦ damaged | rebuilt d t ↦ rebuildBlocks h a (suc s) (left os 4 (s + 1)) d t ]
-    unfolding rebuildBlocks
-    slot-then {r} e =
-        ap (λ (l : List ℕ). rebuildBlocks h a s l c sum) (left-next os 4 s p (omega arith))
-        ∙ ap (λ (x : Rebuilt). elim x as (λ z. Rebuilt) [ damaged ↦ damaged | rebuilt d t ↦ rebuildBlocks h a (suc s) (left os 4 (s + 1)) d t ]) e
+  -- the counter slots before s are rebuilt, from the cache first: c with what is told so far
+  pub record Rebuilding (first c : List ℕ) (sum s : ℕ) : Type 0 where
+    pub most : s ≤ 4
+    pub few : sum ≤ 192 * s
+    pub full : length c ≡ cacheLength h
+    pub rest : blocksFrom 0 first 0 ≡ blocksFrom s c sum
 
-    slot-first : {d : List ℕ} {t : ℕ} → rebuildSlot h a c sum s (getD os s 0) ≡ rebuilt d t → blocksFrom s c sum ≡ blocksFrom (s + 1) d t
-    slot-first {d} {t} e = slot-then e ∙ ap (λ (k : ℕ). rebuildBlocks h a k (left os 4 (s + 1)) d t) (sym (add-one s))
+  module _ (size : length os ≡ 10) where
+    module _ (s : ℕ) (p : s < 4) (c : List ℕ) (sum : ℕ) where
+      slot-then : {r : Rebuilt} → rebuildSlot h a c sum s (getD os s 0) ≡ r
+          → blocksFrom s c sum ≡ elim r as (λ z. Rebuilt) [ damaged ↦ damaged | rebuilt d t ↦ rebuildBlocks h a (suc s) (left os 4 (s + 1)) d t ]
+      unfolding rebuildBlocks
+      slot-then {r} e =
+          ap (λ (l : List ℕ). rebuildBlocks h a s l c sum) (left-next os 4 s p (omega arith))
+          ∙ ap (λ (x : Rebuilt). elim x as (λ z. Rebuilt) [ damaged ↦ damaged | rebuilt d t ↦ rebuildBlocks h a (suc s) (left os 4 (s + 1)) d t ]) e
 
-    slot-ends : rebuildSlot h a c sum s (getD os s 0) ≡ damaged → blocksFrom s c sum ≡ damaged
-    slot-ends e = slot-then e
+      slot-first : {d : List ℕ} {t : ℕ} → rebuildSlot h a c sum s (getD os s 0) ≡ rebuilt d t → blocksFrom s c sum ≡ blocksFrom (s + 1) d t
+      slot-first {d} {t} e = slot-then e ∙ ap (λ (k : ℕ). rebuildBlocks h a k (left os 4 (s + 1)) d t) (sym (add-one s))
 
-    pub blocks-empty : getD os s 0 ≡ 0 → blocksFrom s c sum ≡ blocksFrom (s + 1) c sum
-    unfolding rebuildSlot
-    blocks-empty e = slot-first (ap (rebuildSlot h a c sum s) e)
+      slot-ends : rebuildSlot h a c sum s (getD os s 0) ≡ damaged → blocksFrom s c sum ≡ damaged
+      slot-ends e = slot-then e
 
-    module _ (o : ℕ) (e : o ≡ getD os s 0) (some· : o ≡ 0 → ⊥) where
-      block : rebuildSlot h a c sum s (getD os s 0) ≡ rebuildBlock h a c sum s (o - 1)
+      pub blocks-empty : getD os s 0 ≡ 0 → blocksFrom s c sum ≡ blocksFrom (s + 1) c sum
       unfolding rebuildSlot
-      block = ap (rebuildSlot h a c sum s) (sym e ∙ filled o some·)
+      blocks-empty e = slot-first (ap (rebuildSlot h a c sum s) e)
 
-      pub blocks-damaged : {b ms : List ℕ} → b ≡ cellContent a (cellOf h (node 0 (o - 1))) → ms ≡ minors b
-          → forwardFrom a (64 * (o - 1)) ms ≡ none → blocksFrom s c sum ≡ damaged
-      unfolding rebuildBlock
-      blocks-damaged {b} {ms} u w f =
-          let at : forwardFrom a (64 * (o - 1)) (minors (cellContent a (cellOf h (node 0 (o - 1))))) ≡ none =
-          ap (forwardFrom a (64 * (o - 1))) (sym (w ∙ ap minors u)) ∙ f in
-          slot-ends (block ∙ rw (rebuildBlock, at))
+      module _ (o : ℕ) (e : o ≡ getD os s 0) (some· : o ≡ 0 → ⊥) where
+        block : rebuildSlot h a c sum s (getD os s 0) ≡ rebuildBlock h a c sum s (o - 1)
+        unfolding rebuildSlot
+        block = ap (rebuildSlot h a c sum s) (sym e ∙ filled o some·)
 
-      pub blocks-next : {b ms cur d : List ℕ} {t : ℕ} → b ≡ cellContent a (cellOf h (node 0 (o - 1))) → ms ≡ minors b
-          → forwardFrom a (64 * (o - 1)) ms ≡ some cur → t ≡ sum + (total cur - total ms)
-          → {ma : ℕ} → ma ≡ major b → d ≡ withSlot c s o 1 (counterBlock ma cur) → blocksFrom s c sum ≡ blocksFrom (s + 1) d t
-      unfolding rebuildBlock
-      blocks-next {b} {ms} {cur} {d} {t} u w f g {ma} m z =
-          let cell = cellContent a (cellOf h (node 0 (o - 1))) in
-          let at : forwardFrom a (64 * (o - 1)) (minors cell) ≡ some cur = ap (forwardFrom a (64 * (o - 1))) (sym (w ∙ ap minors u)) ∙ f in
-          let slot : withSlot c s (suc (o - 1)) 1 (counterBlock (major cell) cur) ≡ d =
-          ap₂ {C = List ℕ} (λ (k i : ℕ). withSlot c s k 1 (counterBlock i cur)) (sym (filled o some·)) (sym (m ∙ ap major u)) ∙ sym z in
-          let told : sum + (total cur - total (minors cell)) ≡ t = ap (λ (x : List ℕ). sum + (total cur - total x)) (sym (w ∙ ap minors u)) ∙ sym g in
-          slot-first (block ∙ rw (rebuildBlock, at) (ap₂ {C = Rebuilt} rebuilt slot told))
+        pub blocks-damaged : {b ms : List ℕ} → b ≡ cellContent a (cellOf h (node 0 (o - 1))) → ms ≡ minors b
+            → forwardFrom a (64 * (o - 1)) ms ≡ none → blocksFrom s c sum ≡ damaged
+        unfolding rebuildBlock
+        blocks-damaged {b} {ms} u w f =
+            let at : forwardFrom a (64 * (o - 1)) (minors (cellContent a (cellOf h (node 0 (o - 1))))) ≡ none =
+            ap (forwardFrom a (64 * (o - 1))) (sym (w ∙ ap minors u)) ∙ f in
+            slot-ends (block ∙ rw (rebuildBlock, at))
 
-  pub blocks-end : (s : ℕ) → 4 ≤ s → (c : List ℕ) (sum : ℕ) → blocksFrom s c sum ≡ rebuilt c sum
-  unfolding rebuildBlocks
-  blocks-end s p c sum = rw (left-none os 4 s p)
+        pub blocks-next : {b ms cur d : List ℕ} {t : ℕ} → b ≡ cellContent a (cellOf h (node 0 (o - 1))) → ms ≡ minors b
+            → forwardFrom a (64 * (o - 1)) ms ≡ some cur → t ≡ sum + (total cur - total ms)
+            → {ma : ℕ} → ma ≡ major b → d ≡ withSlot c s o 1 (counterBlock ma cur) → blocksFrom s c sum ≡ blocksFrom (s + 1) d t
+        unfolding rebuildBlock
+        blocks-next {b} {ms} {cur} {d} {t} u w f g {ma} m z =
+            let cell = cellContent a (cellOf h (node 0 (o - 1))) in
+            let at : forwardFrom a (64 * (o - 1)) (minors cell) ≡ some cur = ap (forwardFrom a (64 * (o - 1))) (sym (w ∙ ap minors u)) ∙ f in
+            let slot : withSlot c s (suc (o - 1)) 1 (counterBlock (major cell) cur) ≡ d =
+            ap₂ {C = List ℕ} (λ (k i : ℕ). withSlot c s k 1 (counterBlock i cur)) (sym (filled o some·)) (sym (m ∙ ap major u)) ∙ sym z in
+            let told : sum + (total cur - total (minors cell)) ≡ t = ap (λ (x : List ℕ). sum + (total cur - total x)) (sym (w ∙ ap minors u)) ∙ sym g in
+            slot-first (block ∙ rw (rebuildBlock, at) (ap₂ {C = Rebuilt} rebuilt slot told))
+
+    pub blocks-end : (s : ℕ) → 4 ≤ s → (c : List ℕ) (sum : ℕ) → blocksFrom s c sum ≡ rebuilt c sum
+    unfolding rebuildBlocks
+    blocks-end s p c sum = rw (left-none os 4 s p)
+
+    module _ {first c : List ℕ} {sum s : ℕ} (r : Rebuilding first c sum s) (p : s < 4) where
+      pub rebuilding-empty : getD os s 0 ≡ 0 → Rebuilding first c sum (s + 1)
+      rebuilding-empty e =
+          record { most = omega arith; few = omega (arith, r .few); full = r .full; rest = r .rest ∙ blocks-empty s p c sum e }
+
+      -- the owner's block b lies in cell n, and its minors ms are brought forward in cur
+      module _ (some· : getD os s 0 ≡ 0 → ⊥) {n : ℕ} {b ms cur : List ℕ} {j t : ℕ} (cell : n ≡ cellOf h (node 0 (getD os s 0 - 1)))
+          (block : b ≡ cellContent a n) (unpacked : ms ≡ minors b) (f : Forwarding a (64 * (getD os s 0 - 1)) ms sum cur j t) where
+        pub rebuilding-fails : j < 64 → {v : ℕ} → v ≡ forwarded (getD cur j 0) (phaseByte a (64 * (getD os s 0 - 1) + j)) → 127 < v
+            → damaged ≡ blocksFrom 0 first 0
+        rebuilding-fails q e z =
+            sym (r .rest ∙ blocks-damaged s p c sum (getD os s 0) refl some· (block ∙ ap (cellContent a) cell) unpacked
+            (forwarding-fails a (64 * (getD os s 0 - 1)) ms sum f q e z))
+
+        pub rebuilding-next : 64 ≤ j → j ≤ 64 → {ma : ℕ} {d : List ℕ} → ma ≡ major b → d ≡ withSlot c s (getD os s 0) 1 (counterBlock ma cur)
+            → length d ≡ length c → Rebuilding first d t (s + 1)
+        rebuilding-next all q m e l =
+            record {
+              most = omega arith;
+              few = omega (arith, r .few, f .least);
+              full = l ∙ r .full;
+              rest = r .rest ∙ blocks-next s p c sum (getD os s 0) refl some· (block ∙ ap (cellContent a) cell) unpacked
+                  (forwarding-all a (64 * (getD os s 0 - 1)) ms sum f all) (forwarding-sum a (64 * (getD os s 0 - 1)) ms sum f) m e;
+            }

@@ -1,2 +1,3 @@
 pub mod Forward
 pub mod Blocks
+pub mod Nodes
