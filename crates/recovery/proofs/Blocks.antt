@@ -75,6 +75,19 @@ module _ (h : ℕ) (a os : List ℕ) where
     pub full : length c ≡ cacheLength h
     pub rest : blocksFrom 0 first 0 ≡ blocksFrom s c sum
 
+  pub rebuilding-same : {first c d : List ℕ} {sum t s : ℕ} → Rebuilding first c sum s → d ≡ c → t ≡ sum → Rebuilding first d t s
+  rebuilding-same {first} {c} {d} {sum} {t} {s} r e f =
+      record {
+        most = r .most;
+        few = omega (arith, r .few);
+        full = ap length e ∙ r .full;
+        rest = r .rest ∙ sym (ap₂ {C = Rebuilt} (blocksFrom s) e f);
+      }
+
+  pub blocks-end : (s : ℕ) → 4 ≤ s → (c : List ℕ) (sum : ℕ) → blocksFrom s c sum ≡ rebuilt c sum
+  unfolding rebuildBlocks
+  blocks-end s p c sum = rw (left-none os 4 s p)
+
   module _ (size : length os ≡ 10) where
     module _ (s : ℕ) (p : s < 4) (c : List ℕ) (sum : ℕ) where
       slot-then : {r : Rebuilt} → rebuildSlot h a c sum s (getD os s 0) ≡ r
@@ -119,10 +132,6 @@ module _ (h : ℕ) (a os : List ℕ) where
             let told : sum + (total cur - total (minors cell)) ≡ t = ap (λ (x : List ℕ). sum + (total cur - total x)) (sym (w ∙ ap minors u)) ∙ sym g in
             slot-first (block ∙ rw (rebuildBlock, at) (ap₂ {C = Rebuilt} rebuilt slot told))
 
-    pub blocks-end : (s : ℕ) → 4 ≤ s → (c : List ℕ) (sum : ℕ) → blocksFrom s c sum ≡ rebuilt c sum
-    unfolding rebuildBlocks
-    blocks-end s p c sum = rw (left-none os 4 s p)
-
     module _ {first c : List ℕ} {sum s : ℕ} (r : Rebuilding first c sum s) (p : s < 4) where
       pub rebuilding-empty : getD os s 0 ≡ 0 → Rebuilding first c sum (s + 1)
       rebuilding-empty e =
@@ -137,9 +146,9 @@ module _ (h : ℕ) (a os : List ℕ) where
             sym (r .rest ∙ blocks-damaged s p c sum (getD os s 0) refl some· (block ∙ ap (cellContent a) cell) unpacked
             (forwarding-fails a (64 * (getD os s 0 - 1)) ms sum f q e z))
 
-        pub rebuilding-next : 64 ≤ j → j ≤ 64 → {ma : ℕ} {d : List ℕ} → ma ≡ major b → d ≡ withSlot c s (getD os s 0) 1 (counterBlock ma cur)
+        pub rebuilding-next : j ≤ 64 → 64 ≤ j → {ma : ℕ} {d : List ℕ} → ma ≡ major b → d ≡ withSlot c s (getD os s 0) 1 (counterBlock ma cur)
             → length d ≡ length c → Rebuilding first d t (s + 1)
-        rebuilding-next all q m e l =
+        rebuilding-next q all m e l =
             record {
               most = omega arith;
               few = omega (arith, r .few, f .least);

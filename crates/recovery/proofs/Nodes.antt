@@ -68,3 +68,61 @@ module _ (keys : List ℕ) (l : ℕ) (f : ℕ → List ℕ) (i : ℕ) (o : List 
   tagged-all {s} {k} w e =
       w .bytes ∙ ap (λ (n : ℕ). put o 0 (tagsFrom keys l f (8 * i) n)) e
       ∙ put-all o (childTags keys l f i) (tags-length keys l f (8 * i) 8 ∙ sym size)
+
+-- ---- a node of a slot
+
+module _ (h s i : ℕ) (p : 4 ≤ s) (m : InMap h (node (levelOf s) i)) where
+  pub level-some : {l : ℕ} → l ≡ levelOf s → 1 ≤ l
+  level-some e = omega (arith, level-high s p)
+
+  pub level-below : {l : ℕ} → l ≡ levelOf s → InMap h (node (l - 1 + 1) i)
+  level-below {l} e =
+      let whole : levelOf s ≡ l - 1 + 1 = omega (arith, level-high s p) in
+      subst (λ (n : ℕ). InMap h (node n i)) whole m
+
+  pub index-small : h ≤ 3 → i < 512
+  index-small q = omega (arith, in-map-node h (levelOf s) i m .1, nodes-small {h = h} (levelOf s) refl q)
+
+pub node-put : (h : ℕ) (keys a c : List ℕ) (s i : ℕ) {l : ℕ} {b d : List ℕ} → l ≡ levelOf s
+    → b ≡ childTags keys (l - 1) (current h a c (l - 1)) i → d ≡ withSlot c s (i + 1) 1 b → d ≡ rebuildNode h keys a c s (suc i)
+unfolding rebuildNode
+node-put h keys a c s i {l} {b} {d} e f g =
+    g ∙ ap₂ {C = List ℕ} (λ (o : ℕ) (x : List ℕ). withSlot c s o 1 x) (add-one i)
+    (f ∙ ap (λ (k : ℕ). childTags keys (k - 1) (current h a c (k - 1)) i) e)
+
+-- ---- node slots, one by one
+
+module _ (h : ℕ) (keys a os : List ℕ) (n : ℕ) where
+  -- what is left to do from slot s on
+  abbrev pub nodesFrom : ℕ → List ℕ → List ℕ
+  nodesFrom s c = rebuildNodes h keys a s (left os n s) c
+
+  -- the node slots before s are rebuilt, from the cache first
+  pub record Renewing (first c : List ℕ) (s : ℕ) : Type 0 where
+    pub least : 4 ≤ s
+    pub most : s ≤ n
+    pub full : length c ≡ cacheLength h
+    pub rest : nodesFrom 4 first ≡ nodesFrom s c
+
+  module _ (size : n ≤ length os) {first c : List ℕ} {s : ℕ} (r : Renewing first c s) (p : s < n) where
+    pub renewing-next : {d : List ℕ} {o : ℕ} → o ≡ getD os s 0 → d ≡ rebuildNode h keys a c s o → length d ≡ cacheLength h
+        → Renewing first d (s + 1)
+    unfolding rebuildNodes
+    renewing-next {d} {o} e f l =
+        record {
+          least = omega (arith, r .least);
+          most = omega arith;
+          full = l;
+          rest =
+              r .rest ∙ ap (λ (x : List ℕ). rebuildNodes h keys a s x c) (left-next os n s p size)
+              ∙ ap₂ {C = List ℕ} (λ (k : ℕ) (x : List ℕ). rebuildNodes h keys a k (left os n (s + 1)) x) (sym (add-one s))
+              (ap (rebuildNode h keys a c s) (sym e) ∙ sym f);
+        }
+
+    pub renewing-empty : {d : List ℕ} → getD os s 0 ≡ 0 → d ≡ c → Renewing first d (s + 1)
+    unfolding rebuildNode
+    renewing-empty e f = renewing-next (sym e) f (ap length f ∙ r .full)
+
+  pub renewing-all : {first c : List ℕ} {s : ℕ} → Renewing first c s → n ≤ s → c ≡ nodesFrom 4 first
+  unfolding rebuildNodes
+  renewing-all {first} {c} {s} r p = sym (r .rest ∙ ap (λ (x : List ℕ). rebuildNodes h keys a s x c) (left-none os n s p))

@@ -14,9 +14,10 @@ use Rattle.counter.proofs.Laws.{length-minors, below-minors}
 use Rattle.cache.specs.Cache.{cellContent}
 use Rattle.cache.proofs.Laws.{cell-length, slot-room}
 use Rattle.node.proofs.Laws.{cell-room}
+use Rattle.calls.specs.Recovery.{rebuilt}
 use Rattle.recovery.specs.Rebuild.{counted}
 use Rattle.recovery.proofs.Forward.{Forwarding, forwarding-none, forwarding-next, forwarded-ge, forwarded-le}
-use Rattle.recovery.proofs.Blocks.{Rebuilding, rebuilding-empty, rebuilding-fails, rebuilding-next, blocks-end, placed-node, page-line, page-small}
+use Rattle.recovery.proofs.Blocks.{Rebuilding, rebuilding-empty, rebuilding-fails, rebuilding-next, rebuilding-same, blocks-end, placed-node, page-line, page-small}
 use Rattle.recovery.proofs.rebuild_counters.Statement.{statement}
 use Rattle.recovery.proofs.rebuild_counters.Tie as tie
 
@@ -170,7 +171,7 @@ major-requires : tie.Need-major-requires Inv-loop μ-loop Inv-slots μ-slots
 major-requires c κs = block-full (c .before .before .before .before .before .before)
 
 slice-aggregate-put-block : tie.Need-slice-aggregate-put-block Inv-loop μ-loop Inv-slots μ-slots
-slice-aggregate-put-block c = ?
+slice-aggregate-put-block c = sym (c .before .before .before .before .loop .inv .1 .size)
 
 put-block-requires : tie.Need-put-block-requires Inv-loop μ-loop Inv-slots μ-slots
 put-block-requires c κs =
@@ -186,19 +187,44 @@ slots-less : tie.Need-slots-less Inv-loop μ-loop Inv-slots μ-slots
 slots-less c = omega arith
 
 slots-again : tie.Need-slots-again Inv-loop μ-loop Inv-slots μ-slots
-slots-again c = ?
+slots-again c =
+    let at = c .before .before in
+    let a = start at .args in
+    let p = c .before .slots-test .taken in
+    ⊎-elim
+    (λ w. rebuilding-same (a .h) (a .array .now) (a .t3)
+    (rebuilding-next (a .h) (a .array .now) (a .t3) (ten at) (at .slots .inv) p (w .0 .taken) (w .1 .ensures) (w .2 .ensures) (w .4 .ensures)
+    (w .6 .inv .1) (w .6 .inv .0) (w .7 .left) (w .9 .ensures) (w .11 .ensures) (w .11 .kept .0)) (w .14) (w .15))
+    (λ w. rebuilding-same (a .h) (a .array .now) (a .t3)
+    (rebuilding-empty (a .h) (a .array .now) (a .t3) (ten at) (at .slots .inv) p (w .0 .left)) (w .1) (w .2))
+    (c .if1 .came)
 
 same-length : tie.Need-same-length Inv-loop μ-loop Inv-slots μ-slots
-same-length c = ?
+same-length c = let at = c .before .before in at .slots .inv .full ∙ sym (start at .pre .0 .cache)
 
 returns : tie.Need-returns Inv-loop μ-loop Inv-slots μ-slots
-returns c = ?
+unfolding counted
+returns c =
+    let at = c .before .before in
+    let a = start at .args in
+    ⊎-elim (λ w. absurd (omega (arith, w .0 .left)))
+    (λ w. rebuilding-fails (a .h) (a .array .now) (a .t3) (ten at) (at .slots .inv) (w .0 .taken) (w .1 .taken) (w .2 .ensures) (w .3 .ensures)
+    (w .5 .ensures) (w .7 .inv .1) (w .8 .taken) (w .10 .ensures) (w .11 .taken))
+    (c .before .slots-test .came)
 
 same-length-2 : tie.Need-same-length-2 Inv-loop μ-loop Inv-slots μ-slots
-same-length-2 c = ?
+same-length-2 c = let at = c .before .before in at .slots .inv .full ∙ sym (start at .pre .0 .cache)
 
 returns-2 : tie.Need-returns-2 Inv-loop μ-loop Inv-slots μ-slots
-returns-2 c = ?
+unfolding counted
+returns-2 c =
+    let at = c .before .before in
+    let a = start at .args in
+    ⊎-elim
+    (λ w. ap (λ (n : ℕ). rebuilt (at .slots .image) n) (w .1)
+    ∙ sym (at .slots .inv .rest ∙ blocks-end (a .h) (a .array .now) (a .t3) (at .slots .s) (w .0 .left) (at .slots .image) (at .slots .sum)))
+    (λ w. absurd (omega (arith, w .0 .taken)))
+    (c .before .slots-test .came)
 
 pub rebuild-counters-spec : {M : Type 1} → statement M
 rebuild-counters-spec =
