@@ -6,8 +6,8 @@ use mathlib.Core.Option.{Option, none, some}
 use Prim.Native.Nat.{ℕ, zero, suc, _+_, _-_, _*_, _≤_, _<_, zero-le}
 use native.Mathlib.Numerals.{add-one}
 use native.Mathlib.Omega.{arith}
-use lib.ListN.{length, getD, set, take, drop, length-take, drop-of-length-le}
-use lib.Seq.{drop-cons, getD-take, length-take-le, take-all}
+use lib.ListN.{length, getD, set, take, drop}
+use lib.Seq.{take-all}
 use Rattle.words.specs.Bytes.{toLe, put}
 use Rattle.memory_map.specs.Map.{InMap, cellOf, slots, nodes, lines, arrayLength}
 use Rattle.memory_map.specs.Map.Item.{node}
@@ -17,8 +17,9 @@ use Rattle.slot_map.proofs.Laws.{belongs-node, level-within}
 use Rattle.counter.specs.Counter.{major, minors, counterBlock}
 use Rattle.counter.proofs.Laws.{length-counterBlock}
 use Rattle.cache.specs.Cache.{withSlot, cellContent}
+use Rattle.cache.proofs.Steps.{rest, none as past}
 use Rattle.node.proofs.Laws.{slot-put, line-room}
-use Rattle.calls.specs.Recovery.{Rebuilt, rebuilt, damaged, forwardFrom, phaseByte, total, rebuildBlock, rebuildSlot, rebuildBlocks, rebuildNode, rebuildNodes}
+use Rattle.calls.specs.Recovery.{Rebuilt, rebuilt, damaged, forwardFrom, phaseByte, total, rebuildBlock, rebuildSlot, rebuildBlocks}
 use Rattle.recovery.specs.Rebuild.{Placed}
 use Rattle.recovery.proofs.Forward.{Forwarding, forwarding-fails, forwarding-all, forwarding-sum, forwarded}
 
@@ -27,12 +28,7 @@ abbrev pub left : List ℕ → ℕ → ℕ → List ℕ
 left os n s = drop s (take n os)
 
 pub left-next : (os : List ℕ) (n s : ℕ) → s < n → n ≤ length os → left os n s ≡ getD os s 0 ∷ left os n (s + 1)
-left-next os n s p q =
-    drop-cons (take n os) s 0 (rw (length-take-le n os q) p)
-    ∙ ap₂ {C = List ℕ} (λ (x k : ℕ). x ∷ drop k (take n os)) (getD-take n os s 0 p) (sym (add-one s))
-
-pub left-none : (os : List ℕ) (n s : ℕ) → n ≤ s → left os n s ≡ []
-left-none os n s p = drop-of-length-le (take n os) (let end : length (take n os) ≤ s = rw (length-take n os) (omega arith) in end)
+left-next os n s p q = rest os n s p q ∙ ap (λ (k : ℕ). getD os s 0 ∷ drop k (take n os)) (sym (add-one s))
 
 -- a block written into a slot
 pub block-put : (c : List ℕ) (s o d m : ℕ) (ms : List ℕ) → 73 * s + 73 ≤ length c
@@ -86,7 +82,7 @@ module _ (h : ℕ) (a os : List ℕ) where
 
   pub blocks-end : (s : ℕ) → 4 ≤ s → (c : List ℕ) (sum : ℕ) → blocksFrom s c sum ≡ rebuilt c sum
   unfolding rebuildBlocks
-  blocks-end s p c sum = rw (left-none os 4 s p)
+  blocks-end s p c sum = rw (past os 4 s p)
 
   module _ (size : length os ≡ 10) where
     module _ (s : ℕ) (p : s < 4) (c : List ℕ) (sum : ℕ) where

@@ -16,10 +16,11 @@ use Rattle.slot_map.specs.Slots.{cacheLength, levelOf}
 use Rattle.slot_map.proofs.Laws.{level-high}
 use Rattle.tag.specs.Tag.{nodeTag}
 use Rattle.cache.specs.Cache.{withSlot, current}
+use Rattle.cache.proofs.Steps.{none}
 use Rattle.calls.specs.Path.{tagsFrom, childTags}
 use Rattle.calls.specs.Recovery.{rebuildNode, rebuildNodes}
 use Rattle.call_laws.proofs.Tags.{tags-length, tags-snoc}
-use Rattle.recovery.proofs.Blocks.{left, left-next, left-none, filled}
+use Rattle.recovery.proofs.Blocks.{left, left-next}
 
 pub top : (h : ℕ) → InMap h (node h 0)
 unfolding InMap
@@ -125,4 +126,4 @@ module _ (h : ℕ) (keys a os : List ℕ) (n : ℕ) where
 
   pub renewing-all : {first c : List ℕ} {s : ℕ} → Renewing first c s → n ≤ s → c ≡ nodesFrom 4 first
   unfolding rebuildNodes
-  renewing-all {first} {c} {s} r p = sym (r .rest ∙ ap (λ (x : List ℕ). rebuildNodes h keys a s x c) (left-none os n s p))
+  renewing-all {first} {c} {s} r p = sym (r .rest ∙ ap (λ (x : List ℕ). rebuildNodes h keys a s x c) (none os n s p))
