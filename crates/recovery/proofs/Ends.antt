@@ -53,11 +53,17 @@ module _ (keys : List ℕ) (k : ℕ) (m : Module) (os : List ℕ) where
 -- ---- the shadow
 
 -- the first of many zeros
-pub zeros-front : (n k : ℕ) → n ≤ k → take n (replicate {A = ℕ} k 0) ≡ replicate n 0
+zeros-front : (n k : ℕ) → n ≤ k → take n (replicate {A = ℕ} k 0) ≡ replicate n 0
 zeros-front n k p =
     let whole : k ≡ n + (k - n) = omega arith in
     ap (λ (i : ℕ). take n (replicate i 0)) whole ∙ ap (take n) (sym (replicate-append-replicate n (k - n) 0))
     ∙ take-at (replicate n 0) (replicate (k - n) 0) n (length-replicate n 0)
+
+-- a part of an array of zeros, as long as the cache
+pub image-empty : (h n k : ℕ) → n ≡ cacheLength h → n ≤ k → take (n - 0) (replicate k 0) ≡ emptyCache h
+image-empty h n k e p =
+    let all : n - 0 ≡ n = omega arith in
+    ap (λ (i : ℕ). take i (replicate k 0)) all ∙ zeros-front n k p ∙ ap (λ (i : ℕ). replicate i 0) e
 
 pub placed : (h : ℕ) (a os : List ℕ) → take (slots h) os ≡ shadowOwners h a → badSlot h (take (slots h) os) ≡ Nothing → Placed h os
 placed h a os listed fine =
