@@ -9,16 +9,16 @@ use native.Mathlib.Omega.{arith}
 use lib.ListN.{length, getD, set, take, drop}
 use lib.Seq.{take-all}
 use Rattle.words.specs.Bytes.{toLe, put}
-use Rattle.memory_map.specs.Map.{InMap, cellOf, slots, nodes, lines, arrayLength}
+use Rattle.memory_map.specs.Map.{InMap, cellOf, slots, lines, levelStart, arrayLength}
 use Rattle.memory_map.specs.Map.Item.{node}
-use Rattle.memory_map.proofs.Laws.{in-map-node, nodes-bottom, nodes-small}
+use Rattle.memory_map.proofs.Laws.{in-map-node, nodes-bottom, node-cell}
 use Rattle.slot_map.specs.Slots.{levelOf, cacheLength}
 use Rattle.slot_map.proofs.Laws.{belongs-node, level-within}
 use Rattle.counter.specs.Counter.{major, minors, counterBlock}
 use Rattle.counter.proofs.Laws.{length-counterBlock}
 use Rattle.cache.specs.Cache.{withSlot, cellContent}
 use Rattle.cache.proofs.Steps.{rest, none as past}
-use Rattle.node.proofs.Laws.{slot-put, line-room}
+use Rattle.node.proofs.Laws.{slot-put, cell-room}
 use Rattle.calls.specs.Recovery.{Rebuilt, rebuilt, damaged, forwardFrom, phaseByte, total, rebuildBlock, rebuildSlot, rebuildBlocks}
 use Rattle.recovery.specs.Rebuild.{Placed}
 use Rattle.recovery.proofs.Forward.{Forwarding, forwarding-fails, forwarding-all, forwarding-sum, forwarded}
@@ -47,13 +47,10 @@ placed-node h os f s (suc i) p e q =
     let same : suc i - 1 ≡ i = omega arith in
     (level-within h s p, rw same (at .0))
 
--- a line of a page of the map
-pub page-line : (h : ℕ) (a : List ℕ) (p j : ℕ) → length a ≡ arrayLength h → InMap h (node 0 p) → j < 64 → 72 * (64 * p + j) + 72 ≤ length a
-unfolding lines
-page-line h a p j size m q = line-room h a (64 * p + j) size (omega (arith, in-map-node h 0 p m .1, nodes-bottom h))
-
-pub page-small : {h : ℕ} (p : ℕ) → InMap h (node 0 p) → h ≤ 3 → p < 512
-page-small {h} p m q = omega (arith, in-map-node h 0 p m .1, nodes-small {h = h} 0 refl q)
+-- the lines of a page of the map, and a cell behind them
+pub page-lines : (h : ℕ) (a : List ℕ) (p : ℕ) → length a ≡ arrayLength h → InMap h (node 0 p) → 72 * (64 * p + 65) ≤ length a
+unfolding lines levelStart
+page-lines h a p size m = omega (arith, cell-room h a 0 p size m, node-cell h 0 p, in-map-node h 0 p m .1, nodes-bottom h)
 
 -- an owner that is not 0
 pub filled : (o : ℕ) → (o ≡ 0 → ⊥) → o ≡ suc (o - 1)
@@ -136,7 +133,7 @@ module _ (h : ℕ) (a os : List ℕ) where
       -- the owner's block b lies in cell n, and its minors ms are brought forward in cur
       module _ (some· : getD os s 0 ≡ 0 → ⊥) {n : ℕ} {b ms cur : List ℕ} {j t : ℕ} (cell : n ≡ cellOf h (node 0 (getD os s 0 - 1)))
           (block : b ≡ cellContent a n) (unpacked : ms ≡ minors b) (f : Forwarding a (64 * (getD os s 0 - 1)) ms sum cur j t) where
-        pub rebuilding-fails : j < 64 → {v : ℕ} → v ≡ forwarded (getD cur j 0) (phaseByte a (64 * (getD os s 0 - 1) + j)) → 127 < v
+        pub rebuilding-fails : j < 64 → {v : ℕ} → v ≡ forwarded (getD cur j 0) (phaseByte a (64 * (getD os s 0 - 1) + j)) → 128 ≤ v
             → damaged ≡ blocksFrom 0 first 0
         rebuilding-fails q e z =
             sym (r .rest ∙ blocks-damaged s p c sum (getD os s 0) refl some· (block ∙ ap (cellContent a) cell) unpacked

@@ -25,14 +25,14 @@ unfolding mayForward
 may-few s p e = leb-true (forward s p) 127 (and-eq-true-iff (leb p 3) (leb (forward s p) 127) .0 e .1)
 
 -- it may be brought forward where the result is a minor
-may : (s p v : ℕ) → v ≡ forwarded s p → v ≤ 127 → mayForward s p ≡ true
+may : (s p v : ℕ) → v ≡ forwarded s p → v < 128 → mayForward s p ≡ true
 may s p v e q = go (mayForward s p) e
   where
     go : (b : Bool) → v ≡ cond b (forward s p) 255 → b ≡ true
     go true f = refl
     go false f = absurd (omega arith)
 
-may-not : (s p v : ℕ) → v ≡ forwarded s p → 127 < v → mayForward s p ≡ false
+may-not : (s p v : ℕ) → v ≡ forwarded s p → 128 ≤ v → mayForward s p ≡ false
 may-not s p v e q = go (mayForward s p) refl e
   where
     go : (b : Bool) → mayForward s p ≡ b → v ≡ cond b (forward s p) 255 → mayForward s p ≡ false
@@ -118,14 +118,14 @@ module _ (a : List ℕ) (n : ℕ) (ms : List ℕ) (first : ℕ) where
     next : drop j cur ≡ getD cur j 0 ∷ drop (suc j) cur
     next = drop-cons cur j 0 (omega (arith, f .size))
 
-    pub forwarding-fails : 127 < v → forwardFrom a n ms ≡ none
+    pub forwarding-fails : 128 ≤ v → forwardFrom a n ms ≡ none
     unfolding prefixed
     forwarding-fails p =
         f .rest
         ∙ ap (prefixed (take j cur)) (ap (forwardFrom a (n + j)) next
         ∙ forward-none a (n + j) (getD cur j 0) (drop (suc j) cur) (may-not (getD cur j 0) (phaseByte a (n + j)) v e p))
 
-    module _ (p : v ≤ 127) where
+    module _ (p : v < 128) where
       fine : mayForward (getD cur j 0) (phaseByte a (n + j)) ≡ true
       fine = may (getD cur j 0) (phaseByte a (n + j)) v e p
 

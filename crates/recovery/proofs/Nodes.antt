@@ -26,6 +26,9 @@ pub top : (h : ℕ) → InMap h (node h 0)
 unfolding InMap
 top h = (le-refl h, nodes-some h h)
 
+pub index-small : (h l i : ℕ) → InMap h (node l i) → h ≤ 3 → i < 512
+index-small h l i m p = omega (arith, in-map-node h l i m .1, nodes-small {h = h} l refl p)
+
 -- ---- the tags of a node's children
 
 module _ (h l i : ℕ) (m : InMap h (node (l + 1) i)) where
@@ -35,9 +38,6 @@ module _ (h l i : ℕ) (m : InMap h (node (l + 1) i)) where
   pub child : (k : ℕ) → k < 8 → InMap h (node l (8 * i + k))
   unfolding InMap
   child k p = (omega (arith, up .0), omega (arith, up .1, nodes-below h l (up .0)))
-
-  pub few : h ≤ 3 → i < 512
-  few q = omega (arith, up .1, nodes-small {h = h} (suc l) refl q)
 
 -- the tags of the first k children, whose contents f tells, are stored in s
 pub record Tagged (keys : List ℕ) (l : ℕ) (f : ℕ → List ℕ) (i : ℕ) (o s : List ℕ) (k : ℕ) : Type 0 where
@@ -72,17 +72,13 @@ module _ (keys : List ℕ) (l : ℕ) (f : ℕ → List ℕ) (i : ℕ) (o : List 
 
 -- ---- a node of a slot
 
-module _ (h s i : ℕ) (p : 4 ≤ s) (m : InMap h (node (levelOf s) i)) where
-  pub level-some : {l : ℕ} → l ≡ levelOf s → 1 ≤ l
-  level-some e = omega (arith, level-high s p)
+pub level-some : (s : ℕ) → 4 ≤ s → {l : ℕ} → l ≡ levelOf s → 1 ≤ l
+level-some s p e = omega (arith, level-high s p)
 
-  pub level-below : {l : ℕ} → l ≡ levelOf s → InMap h (node (l - 1 + 1) i)
-  level-below {l} e =
-      let whole : levelOf s ≡ l - 1 + 1 = omega (arith, level-high s p) in
-      subst (λ (n : ℕ). InMap h (node n i)) whole m
-
-  pub index-small : h ≤ 3 → i < 512
-  index-small q = omega (arith, in-map-node h (levelOf s) i m .1, nodes-small {h = h} (levelOf s) refl q)
+pub level-below : (h s i : ℕ) → 4 ≤ s → InMap h (node (levelOf s) i) → {l : ℕ} → l ≡ levelOf s → InMap h (node (l - 1 + 1) i)
+level-below h s i p m {l} e =
+    let whole : levelOf s ≡ l - 1 + 1 = omega (arith, level-high s p) in
+    subst (λ (n : ℕ). InMap h (node n i)) whole m
 
 pub node-put : (h : ℕ) (keys a c : List ℕ) (s i : ℕ) {l : ℕ} {b d : List ℕ} → l ≡ levelOf s
     → b ≡ childTags keys (l - 1) (current h a c (l - 1)) i → d ≡ withSlot c s (i + 1) 1 b → d ≡ rebuildNode h keys a c s (suc i)

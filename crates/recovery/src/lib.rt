@@ -78,7 +78,7 @@ fn rebuild_counters(h: usize, array: &[u8], owners: [u64; 10], image: &mut [u8])
             while j < 64 {
                 let minor = minors[j];
                 let new = forwarded(minor, array[72 * (64 * page + j) + 64]);
-                if 127 < new {
+                if 128 <= new {
                     break 'slots;
                 }
                 minors[j] = new;
@@ -114,7 +114,8 @@ fn child_tags<'a>(
     while k < 8 {
         let child = 8 * i + k;
         let content = node::current(h, array, image, l, child);
-        words::store64(out, 8 * k, tag::node_tag(keys, content, l as u64, child as u64));
+        let tag = tag::node_tag(keys, content, l as u64, child as u64);
+        words::store64(out, 8 * k, tag);
         k += 1;
     }
 }
@@ -126,8 +127,9 @@ fn put_node(h: usize, keys: &[u8], array: &[u8], s: usize, i: usize, image: &mut
     ensures { λ _. ⌜ now (image .exit)
         ≡ rebuildNode h (now (keys .entry)) (now (array .entry)) (now (image .entry)) s (suc i) ⌝ }
 {
+    let l = slot_map::level_of(s) - 1;
     let mut tags = [0u8; 64];
-    child_tags(h, keys, array, image, slot_map::level_of(s) - 1, i, &mut tags);
+    child_tags(h, keys, array, image, l, i, &mut tags);
     node::put_slot(image, s, i as u64 + 1, 1, &tags);
 }
 
@@ -199,13 +201,7 @@ fn rebuild(
 }
 
 // What follows the pending stores.
-fn recover_media(
-    keys: &[u8],
-    control: &[u8],
-    array: &[u8],
-    cache: &mut [u8],
-    stores: u64,
-) -> Answer
+fn recover_media(keys: &[u8], control: &[u8], array: &[u8], cache: &mut [u8], stores: u64) -> Answer
     requires { ⌜ (length (now keys) ≡ 48) × ((length (now control) ≡ controlLength)
         × Sized (depthOf (now control)) (now array) (now cache)) ⌝ }
     ensures { λ r. ⌜ ended r (now (array .entry)) (now (control .entry)) (now (cache .exit))

@@ -3,9 +3,11 @@ use mathlib.Core.Path.{_≡_, sym, ap, _∙_}
 use Prim.Native.Nat.{ℕ, _+_, _-_, _*_, _≤_, _<_, zero-le}
 use native.Mathlib.Omega.{arith}
 use lib.ListN.{length}
+use Rattle.memory_map.specs.Map.{InMap}
+use Rattle.memory_map.specs.Map.Item.{node}
 use Rattle.cache.specs.Cache.{current}
 use Rattle.node.proofs.Laws.{current-length}
-use Rattle.recovery.proofs.Nodes.{Tagged, child, few, tagged-none, tagged-next, tagged-all}
+use Rattle.recovery.proofs.Nodes.{Tagged, child, index-small, tagged-none, tagged-next, tagged-all}
 use Rattle.recovery.proofs.child_tags.Statement.{statement}
 use Rattle.recovery.proofs.child_tags.Tie as tie
 
@@ -19,10 +21,20 @@ abbrev start : tie.At-loop Inv-loop μ-loop → tie.Start Inv-loop μ-loop
 start c = c .before .before .before .before .before
 
 small : (c : tie.At-loop Inv-loop μ-loop) → start c .args .i < 512
-small c = let s = start c in few (s .args .h) (s .args .l) (s .args .i) (s .pre .1 .1 .0) (s .pre .1 .0 .flat)
+small c = let s = start c in index-small (s .args .h) (s .args .l + 1) (s .args .i) (s .pre .1 .1 .0) (s .pre .1 .0 .flat)
+
+-- the child of a turn
+inside : (c : tie.In-loop Inv-loop μ-loop)
+    → let a = start (c .before) .args in
+    InMap (a .h) (node (a .l) (8 * a .i + c .before .loop .k))
+inside c =
+    let s = start (c .before) in
+    child (s .args .h) (s .args .l) (s .args .i) (s .pre .1 .1 .0) (c .before .loop .k) (c .loop-test .taken)
 
 loop-holds : tie.Need-loop-holds Inv-loop μ-loop
-loop-holds c = let s = c .before .before .before .before in (zero-le, tagged-none (s .args .keys .now) (s .args .l) _ (s .args .i) (s .args .out .now) (s .pre .1 .1 .1))
+loop-holds c =
+    let s = c .before .before .before .before in
+    (zero-le, tagged-none (s .args .keys .now) (s .args .l) _ (s .args .i) (s .args .out .now) (s .pre .1 .1 .1))
 
 mul-child : tie.Need-mul-child Inv-loop μ-loop
 mul-child c = omega (arith, small (c .before))
@@ -31,22 +43,15 @@ add-child : tie.Need-add-child Inv-loop μ-loop
 add-child c = omega (arith, small (c .before))
 
 current-requires : tie.Need-current-requires Inv-loop μ-loop
-current-requires c κs =
-    let s = start (c .before) in
-    (s .pre .1 .0, child (s .args .h) (s .args .l) (s .args .i) (s .pre .1 .1 .0) (c .before .loop .k) (c .loop-test .taken))
-
-mul-store64 : tie.Need-mul-store64 Inv-loop μ-loop
-mul-store64 c = omega arith
+current-requires c κs = (start (c .before) .pre .1 .0, inside c)
 
 node-tag-requires : tie.Need-node-tag-requires Inv-loop μ-loop
 node-tag-requires c κs =
-    let found = c .before in
-    let turn = found .before in
-    let s = start (turn .before) in (
-      s .pre .0,
-      ap length (found .current .ensures)
-          ∙ current-length (s .args .l) _ (s .pre .1 .0) (child (s .args .h) (s .args .l) (s .args .i) (s .pre .1 .1 .0) (turn .before .loop .k) (turn .loop-test .taken)),
-    )
+    let s = start (c .before .before) in
+    (s .pre .0, ap length (c .current .ensures) ∙ current-length (s .args .l) _ (s .pre .1 .0) (inside (c .before)))
+
+mul-store64 : tie.Need-mul-store64 Inv-loop μ-loop
+mul-store64 c = omega arith
 
 store64-requires : tie.Need-store64-requires Inv-loop μ-loop
 store64-requires c κs = let at = c .before .before .before .before in omega (arith, at .loop .inv .1 .full)
@@ -60,14 +65,14 @@ loop-less c = omega arith
 loop-again : tie.Need-loop-again Inv-loop μ-loop
 loop-again c =
     let stored = c .before .before in
-    let tagged = stored .before in
-    let found = tagged .before .before in
+    let tagged = stored .before .before in
+    let found = tagged .before in
     let turn = found .before in
     let at = turn .before in
     let s = start at in (
       omega arith,
-      tagged-next (s .args .keys .now) (s .args .l) _ (s .args .i) (s .args .out .now) (s .pre .1 .1 .1) (at .loop .inv .1) (turn .loop-test .taken)
-          (found .current .ensures) (tagged .node-tag .ensures) (stored .store64 .ensures) (stored .store64 .kept .0),
+      tagged-next (s .args .keys .now) (s .args .l) _ (s .args .i) (s .args .out .now) (s .pre .1 .1 .1) (at .loop .inv .1)
+          (turn .loop-test .taken) (found .current .ensures) (tagged .node-tag .ensures) (stored .store64 .ensures) (stored .store64 .kept .0),
     )
 
 same-length : tie.Need-same-length Inv-loop μ-loop
@@ -89,8 +94,8 @@ child-tags-spec =
     mul-child
     add-child
     current-requires
-    mul-store64
     node-tag-requires
+    mul-store64
     store64-requires
     add-k
     loop-less

@@ -42,7 +42,7 @@ returns c =
     let a = start .args in
     packed .pack .ensures
     ∙ ap (λ (x : List ℕ). put (set x (73 * a .s + 8) _) (73 * a .s + 9) (counterBlock (a .major) (a .minors .now))) (stored .store64 .ensures)
-    ∙ block-put (a .image .now) (a .s) (a .owner) 1 (a .major) (a .minors .now) (start .pre .0 .0)
+    ∙ block-put (a .image .now) (a .s) (a .owner) _ (a .major) (a .minors .now) (start .pre .0 .0)
 
 pub put-block-spec : {M : Type 1} → statement M
 put-block-spec =

@@ -17,7 +17,8 @@ use Rattle.node.proofs.Laws.{cell-room}
 use Rattle.calls.specs.Recovery.{rebuilt}
 use Rattle.recovery.specs.Rebuild.{counted}
 use Rattle.recovery.proofs.Forward.{Forwarding, forwarding-none, forwarding-next, forwarded-ge, forwarded-le}
-use Rattle.recovery.proofs.Blocks.{Rebuilding, rebuilding-empty, rebuilding-fails, rebuilding-next, rebuilding-same, blocks-end, placed-node, page-line, page-small}
+use Rattle.recovery.proofs.Blocks.{Rebuilding, rebuilding-empty, rebuilding-fails, rebuilding-next, rebuilding-same, blocks-end, placed-node, page-lines}
+use Rattle.recovery.proofs.Nodes.{index-small}
 use Rattle.recovery.proofs.rebuild_counters.Statement.{statement}
 use Rattle.recovery.proofs.rebuild_counters.Tie as tie
 
@@ -33,7 +34,6 @@ Inv-slots h array image₀ owners sum₀ s₀ image sum s = Rebuilding h array o
 
 abbrev μ-slots : tie.MeasureT-slots
 μ-slots h array image₀ owners sum₀ s₀ image sum s = 4 - s
-
 
 -- what is lent
 abbrev start : tie.At-slots Inv-loop μ-loop Inv-slots μ-slots → tie.Start Inv-loop μ-loop Inv-slots μ-slots
@@ -106,7 +106,7 @@ array-read-minor c = omega (arith, c .before .loop .inv .1 .size)
 small : (c : tie.At-loop Inv-loop μ-loop Inv-slots μ-slots)
     → let at = slot c .before .before in
     getD (start at .args .t3) (at .slots .s) 0 - 1 < 512
-small c = let at = slot c .before .before in page-small _ (inside (slot c)) (start at .pre .0 .flat)
+small c = let s = start (slot c .before .before) in index-small (s .args .h) 0 _ (inside (slot c)) (s .pre .0 .flat)
 
 mul-forwarded : tie.Need-mul-forwarded Inv-loop μ-loop Inv-slots μ-slots
 mul-forwarded c = omega (arith, small (c .before))
@@ -124,7 +124,7 @@ shared-slice-read-forwarded : tie.Need-shared-slice-read-forwarded Inv-loop μ-l
 shared-slice-read-forwarded c =
     let at = c .before .before in
     let s = start (slot at .before .before) in
-    omega (arith, page-line (s .args .h) (s .args .array .now) _ (at .loop .j) (s .pre .0 .array) (inside (slot at)) (c .before .loop-test .taken))
+    omega (arith, page-lines (s .args .h) (s .args .array .now) _ (s .pre .0 .array) (inside (slot at)))
 
 forwarded-requires : tie.Need-forwarded-requires Inv-loop μ-loop Inv-slots μ-slots
 forwarded-requires c κs = let at = c .before .before in at .loop .inv .1 .few .at (at .loop .j)
@@ -145,7 +145,7 @@ array-write-minors : tie.Need-array-write-minors Inv-loop μ-loop Inv-slots μ-s
 array-write-minors c = let at = c .before .before .before .before in omega (arith, at .loop .inv .1 .size)
 
 sub-sum : tie.Need-sub-sum Inv-loop μ-loop Inv-slots μ-slots
-sub-sum c = steps c .0
+sub-sum c = omega (arith, steps c .0)
 
 cast-sum : tie.Need-cast-sum Inv-loop μ-loop Inv-slots μ-slots
 cast-sum c = omega arith
