@@ -175,7 +175,7 @@ unfolding flagsFormed
 flags-all c s zero = refl
 flags-all c s (suc n) = ap (λ (b : Bool). flagged c s && b) (flags-all c (suc s) n)
 
-getD-from : (f : ℕ → ℕ) (s n i : ℕ) → i < n → getD (from f s n) i 0 ≡ f (s + i)
+pub getD-from : (f : ℕ → ℕ) (s n i : ℕ) → i < n → getD (from f s n) i 0 ≡ f (s + i)
 unfolding from
 getD-from f s zero i p = absurd (omega arith)
 getD-from f s (suc n) zero p = ap f (sym (add-zero s))

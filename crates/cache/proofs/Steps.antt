@@ -38,12 +38,12 @@ owners-next f os s o h e p =
     ∙ ap₂ {C = List ℕ} (λ (l : List ℕ) (x : ℕ). l ++ (x ∷ [])) e (p ∙ ap f (sym (zero-add s))) ∙ sym (from-snoc f 0 s))
 
 -- the first of n elements from s on, and the rest
-rest : (os : List ℕ) (n s : ℕ) → s < n → n ≤ length os → drop s (take n os) ≡ getD os s 0 ∷ drop (suc s) (take n os)
+pub rest : (os : List ℕ) (n s : ℕ) → s < n → n ≤ length os → drop s (take n os) ≡ getD os s 0 ∷ drop (suc s) (take n os)
 rest os n s p q =
     drop-cons (take n os) s 0 (rw (length-take-le n os q) p)
     ∙ ap (λ (x : ℕ). x ∷ drop (suc s) (take n os)) (getD-take n os s 0 p)
 
-none : (os : List ℕ) (n s : ℕ) → n ≤ s → drop s (take n os) ≡ []
+pub none : (os : List ℕ) (n s : ℕ) → n ≤ s → drop s (take n os) ≡ []
 none os n s p = drop-of-length-le (take n os) (let end : length (take n os) ≤ s = rw (length-take n os) (omega arith) in end)
 
 -- an empty slot is in place, and a filled one where its owner belongs

@@ -147,14 +147,14 @@ module _ (keys : List ℕ) (m : Module) (b : Bytes m) (ok : Opened keys m) where
       rw (array-cells (depth (m .control)) (length (m .array)) (ok .fits .array))
       (within-pending (cells (depth (m .control))) (m .control) (ok .record664) (b .control) (head-of keys m ok .few) (valid-parts (ok .right) .1))
 
-  made-module : ℕ → Module
+  unfoldable pub made-module : ℕ → Module
   made-module a = withMedia (storeAll (mediaOf m) (made a (pendingStores (m .control)))) (m .cache)
 
   pending-kept : (a : ℕ) → Kept m (made-module a)
   unfolding made-module
   pending-kept a = after-stores m b (depth (m .control)) (head-of keys m ok .flat) (ok .fits .array) (ok .record664) a (m .cache) pending-within refl (b .cache)
 
-  made-depth : (a : ℕ) → depth (made-module a .control) ≡ depth (m .control)
+  pub made-depth : (a : ℕ) → depth (made-module a .control) ≡ depth (m .control)
   unfolding made-module
   made-depth a =
       front-depth _ (m .control)

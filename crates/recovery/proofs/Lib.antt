@@ -1,0 +1,4 @@
+pub mod Forward
+pub mod Blocks
+pub mod Nodes
+pub mod Ends
