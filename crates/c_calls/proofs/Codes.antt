@@ -1,0 +1,173 @@
+-- Every code of an answer fits the C side's number: refusals go up to 29. Assumes nothing.
+use mathlib.Core.Path.{_≡_, refl, sym, ap, _∙_, subst}
+use mathlib.Core.Bool.{Bool, true, false, cond}
+use mathlib.Core.Option.{Option, none, some}
+use mathlib.Core.List.{List, [], _∷_}
+use Prim.Native.Nat.{ℕ, zero, suc, _≤_, _<_, zero-le}
+use native.Mathlib.Omega.{arith}
+use lib.Dec.{eqb, lit≤}
+use lib.ListN.{length}
+use Rattle.answer.specs.Answer.{codeOf}
+use Rattle.answer.specs.declared.Answer.{Answer}
+use Rattle.answer.specs.declared.Answer.the-variants.{Done, Blank, Cut, Refused}
+use Rattle.control.specs.Control.{Cell, depth, root}
+use Rattle.cache.specs.declared.Found.{Found}
+use Rattle.cache.specs.declared.Found.the-variants.{Nothing, At}
+use Rattle.tag.specs.Tag.{nodeTag}
+use Rattle.cache.specs.Cache.{current}
+use Rattle.journal.specs.Journal.{Store, batchStores, isCut, pendingStores}
+use Rattle.calls.specs.Path.{Loaded, loaded, differs}
+use Rattle.calls.specs.Call.{Module, Called, judged, accessRefusal, refuse, storing, pathOf}
+use Rattle.calls.specs.Read.{Reading, lineMinor, sideOk, answered, readLoaded, readPath, readJudged, read}
+use Rattle.calls.specs.Write.{writeStores, writtenCache, writeLoaded, writePath, writeJudged, write}
+use Rattle.calls.specs.Recovery.{Rebuilt, rebuilt, damaged, recoveryRefusal, recoverRoot, recoverRebuilt, recoverShadow, recoverMedia, recoverJudged, recover}
+use Rattle.calls.specs.Format.{formatRefusal, formatted, format}
+use Rattle.calls.specs.DirtyPages.{listRefusal}
+use Rattle.c_calls.specs.Listed.{listAnswer}
+
+-- the code of a call's answer is small
+pub record Fits (x : Called) : Type 0 where
+  pub code : codeOf (x .answer) ≤ 129
+
+refused-fits : (n k a b : ℕ) (m : Module) → n ≤ 29 → Fits (record { answer = Refused n k a b; after = m })
+unfolding codeOf
+refused-fits n k a b m p = record { code = omega arith }
+
+cut-fits : (n : ℕ) (m : Module) → Fits (record { answer = Cut n; after = m })
+unfolding codeOf
+cut-fits n m = record { code = lit≤ tt }
+
+blank-fits : (n : ℕ) (m : Module) → Fits (record { answer = Blank n; after = m })
+unfolding codeOf
+blank-fits n m = record { code = lit≤ tt }
+
+done-fits : (n t : ℕ) (m : Module) → Fits (record { answer = Done n t; after = m })
+unfolding codeOf
+done-fits n t m = record { code = lit≤ tt }
+
+-- by a test
+either : (b : Bool) {x y : Called} → Fits x → Fits y → Fits (cond b x y)
+either true p q = p
+either false p q = q
+
+storing-fits : (allowance : ℕ) (m : Module) (xs : List Store) (answer : Answer) (c : List ℕ) → ((n : Module) → Fits (record { answer = answer; after = n }))
+    → Fits (storing allowance m xs answer c)
+unfolding storing
+storing-fits allowance m xs answer c p = either (isCut allowance xs) (cut-fits _ _) (p _)
+
+-- ---- refusals from the input and the state
+
+abbrev Small : List (Bool × ℕ) → Type 0
+Small [] = Unit {0}
+Small (x ∷ xs) = (x .1 ≤ 29) × Small xs
+
+pick : (b : Bool) (x y : ℕ) → x ≤ 29 → y ≤ 29 → cond b x y ≤ 29
+pick true x y p q = p
+pick false x y p q = q
+
+judged-small : (xs : List (Bool × ℕ)) → Small xs → judged xs ≤ 29
+unfolding judged
+judged-small [] s = zero-le
+judged-small (x ∷ xs) s = pick (x .0) (x .1) (judged xs) (s .0) (judged-small xs (s .1))
+
+access-small : (keys : List ℕ) (line : ℕ) (b : List ℕ) (m : Module) → accessRefusal keys line b m ≤ 29
+unfolding accessRefusal
+access-small keys line b m =
+    judged-small _ (lit≤ tt, (lit≤ tt, (lit≤ tt, (lit≤ tt, (lit≤ tt, (lit≤ tt, (lit≤ tt, (lit≤ tt, (lit≤ tt, tt)))))))))
+
+recovery-small : (keys : List ℕ) (m : Module) → recoveryRefusal keys m ≤ 29
+unfolding recoveryRefusal
+recovery-small keys m = judged-small _ (lit≤ tt, (lit≤ tt, (lit≤ tt, (lit≤ tt, (lit≤ tt, tt)))))
+
+format-small : (keys : List ℕ) (h : ℕ) (m : Module) → formatRefusal keys h m ≤ 29
+unfolding formatRefusal
+format-small keys h m = judged-small _ (lit≤ tt, (lit≤ tt, (lit≤ tt, (lit≤ tt, (lit≤ tt, tt)))))
+
+list-small : (control cache out : List ℕ) → listRefusal control cache out ≤ 29
+unfolding listRefusal
+list-small control cache out = judged-small _ (lit≤ tt, (lit≤ tt, (lit≤ tt, (lit≤ tt, (lit≤ tt, tt)))))
+
+-- ---- the calls
+
+read-tests : (b t : Bool) (x y z : Reading) → Fits (x .called) → Fits (y .called) → Fits (z .called) → Fits ((cond b x (cond t y z)) .called)
+read-tests true t x y z p q r = p
+read-tests false true x y z p q r = q
+read-tests false false x y z p q r = r
+
+module _ (keys : List ℕ) (line allowance : ℕ) (out : List ℕ) (m : Module) where
+  read-path : (l : Loaded) → Fits ((readPath keys line allowance m out l) .called)
+  unfolding readPath readLoaded answered
+  read-path (differs l i) = refused-fits 24 0 l i m (lit≤ tt)
+  read-path (loaded c x) =
+      read-tests (eqb (lineMinor c line) 0) (sideOk keys (m .array) c line) _ _ _
+      (storing-fits allowance m (batchStores x (root (m .control))) (Blank (length (batchStores x (root (m .control))))) c (blank-fits _))
+      (storing-fits allowance m (batchStores x (root (m .control))) (Done (length (batchStores x (root (m .control)))) 0) c (done-fits _ 0))
+      (refused-fits 25 0 line 0 m (lit≤ tt))
+
+  read-judged : (n : ℕ) → n ≤ 29 → Fits ((readJudged n keys line allowance m out) .called)
+  unfolding readJudged
+  read-judged zero p = read-path (pathOf keys line m)
+  read-judged (suc n) p = refused-fits (suc n) 0 0 0 m p
+
+  pub read-fits : Fits ((read keys line allowance out m) .called)
+  read-fits = read-judged (accessRefusal keys line out m) (access-small keys line out m)
+
+module _ (keys : List ℕ) (line : ℕ) (text : List ℕ) (allowance : ℕ) (m : Module) where
+  write-path : (l : Loaded) → Fits (writePath keys line text allowance m l)
+  unfolding writePath writeLoaded
+  write-path (differs l i) = refused-fits 24 0 l i m (lit≤ tt)
+  write-path (loaded c x) =
+      either (eqb (lineMinor c line) 127) (refused-fits 26 0 0 0 m (lit≤ tt)) (storing-fits allowance m _ _ _ (done-fits _ 0))
+
+  write-judged : (n : ℕ) → n ≤ 29 → Fits (writeJudged n keys line text allowance m)
+  unfolding writeJudged
+  write-judged zero p = write-path (pathOf keys line m)
+  write-judged (suc n) p = refused-fits (suc n) 0 0 0 m p
+
+  pub write-fits : Fits (write keys line text allowance m)
+  write-fits = write-judged (accessRefusal keys line text m) (access-small keys line text m)
+
+module _ (keys : List ℕ) where
+  recover-root : (k : ℕ) (m : Module) (sum : ℕ) (c : List ℕ) → Fits (recoverRoot keys k m sum c)
+  unfolding recoverRoot
+  recover-root k m sum c =
+      let h = depth (m .control) in
+      either (eqb (nodeTag keys (current h (m .array) c h 0) h 0) (root (m .control))) (done-fits k sum _) (refused-fits 29 k 0 0 m (lit≤ tt))
+
+  recover-rebuilt : (k : ℕ) (m : Module) (os : List ℕ) (r : Rebuilt) → Fits (recoverRebuilt keys k m os r)
+  unfolding recoverRebuilt
+  recover-rebuilt k m os damaged = refused-fits 28 k 0 0 m (lit≤ tt)
+  recover-rebuilt k m os (rebuilt d sum) = recover-root k m sum _
+
+  recover-shadow : (k : ℕ) (m : Module) (os : List ℕ) (f : Found) → Fits (recoverShadow keys k m os f)
+  unfolding recoverShadow
+  recover-shadow k m os (At s) = refused-fits 27 k s 0 m (lit≤ tt)
+  recover-shadow k m os Nothing = recover-rebuilt k m os _
+
+  recover-judged : (allowance : ℕ) (m : Module) (n : ℕ) → n ≤ 29 → Fits (recoverJudged n keys allowance m)
+  unfolding recoverJudged
+  recover-judged allowance m zero p = either (isCut allowance (pendingStores (m .control))) (cut-fits _ _) (recover-shadow _ _ _ _)
+  recover-judged allowance m (suc n) p = refused-fits (suc n) 0 0 0 m p
+
+  pub recover-fits : (allowance : ℕ) (m : Module) → Fits (recover keys allowance m)
+  recover-fits allowance m = recover-judged allowance m (recoveryRefusal keys m) (recovery-small keys m)
+
+  format-judged : (h : ℕ) (m : Module) (n : ℕ) → n ≤ 29
+      → Fits (elim n as (λ _. Called) [ zero ↦ formatted keys h | suc i ↦ refuse m (suc i) 0 0 ])
+  unfolding formatted
+  format-judged h m zero p = done-fits 0 0 _
+  format-judged h m (suc n) p = refused-fits (suc n) 0 0 0 m p
+
+  pub format-fits : (h : ℕ) (m : Module) → Fits (format keys h m)
+  unfolding format
+  format-fits h m = format-judged h m (formatRefusal keys h m) (format-small keys h m)
+
+-- of the list, whatever it leaves
+list-judged : (m : Module) (n : ℕ) → n ≤ 29 → Fits (record { answer = listAnswer n; after = m })
+unfolding listAnswer
+list-judged m zero p = done-fits 0 0 m
+list-judged m (suc n) p = refused-fits (suc n) 0 0 0 m p
+
+pub list-fits : (control cache out : List ℕ) → codeOf (listAnswer (listRefusal control cache out)) ≤ 129
+list-fits control cache out =
+    list-judged (record { array = []; control = control; cache = cache }) (listRefusal control cache out) (list-small control cache out) .code

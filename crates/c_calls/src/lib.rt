@@ -1,0 +1,186 @@
+// The calls for C: include/nightvelvet.h. A slice is a pointer and a length in C.
+ghost use mathlib.Core.Path.{_≡_};
+ghost use mathlib.Core.List.{[], _∷_};
+ghost use Prim.Native.Nat.{_^_, _<_};
+ghost use lib.ListN.{length};
+ghost use Rattle.words.specs.Bytes.{bytesOf};
+ghost use Rattle.answer.specs.Answer.{codeOf, valuesOf};
+ghost use Rattle.calls.specs.Call.{buffers};
+ghost use Rattle.calls.specs.Read.{read as readOf};
+ghost use Rattle.calls.specs.Write.{write as writeOf};
+ghost use Rattle.calls.specs.Recovery.{recover as recoverOf};
+ghost use Rattle.calls.specs.Format.{format as formatOf};
+ghost use Rattle.calls.specs.DirtyPages.{listRefusal};
+ghost use Rattle.calls.specs.ForC.{codeForC, bufferForC, leftForC};
+ghost use Rattle.c_calls.specs.Listed.{listAnswer, ListLeft};
+use answer::Answer;
+use words::store64;
+
+// The code for a buffer of another length than 24.
+const BAD_NUMBERS: u32 = 107;
+
+// Writes three numbers.
+fn put_numbers(numbers: &mut [u8], stores: u64, first: u64, second: u64)
+    requires { ⌜ length (now numbers) ≡ 24 ⌝ }
+    ensures { λ _. ⌜ now (numbers .exit) ≡ bytesOf 8 (stores ∷ first ∷ second ∷ []) ⌝ }
+{
+    store64(numbers, 0, stores);
+    store64(numbers, 8, first);
+    store64(numbers, 16, second);
+}
+
+// Writes the numbers of an answer, and gives its code.
+fn tell(answer: Answer, numbers: &mut [u8]) -> u32
+    requires { ⌜ (length (now numbers) ≡ 24) × (codeOf answer < 2 ^ 32) ⌝ }
+    ensures { λ r. ⌜ r ≡ codeOf answer ⌝ }
+    ensures { λ _. ⌜ now (numbers .exit) ≡ bytesOf 8 (valuesOf answer) ⌝ }
+{
+    match answer {
+        Answer::Done { stores, sum } => {
+            put_numbers(numbers, stores, sum, 0);
+            0
+        }
+        Answer::Blank { stores } => {
+            put_numbers(numbers, stores, 0, 0);
+            1
+        }
+        Answer::Cut { stores } => {
+            put_numbers(numbers, stores, 0, 0);
+            2
+        }
+        Answer::Refused {
+            number,
+            stores,
+            first,
+            second,
+        } => {
+            put_numbers(numbers, stores, first, second);
+            100 + number as u32
+        }
+    }
+}
+
+#[no_mangle]
+pub extern "C" fn nv_format(
+    depth: u64,
+    keys: &[u8],
+    control: &mut [u8],
+    array: &mut [u8],
+    cache: &mut [u8],
+    numbers: &mut [u8],
+) -> u32
+    ensures { λ r. ⌜ r ≡ codeForC (now (numbers .entry)) ((formatOf (now (keys .entry)) depth
+        (buffers (now (array .entry)) (now (control .entry)) (now (cache .entry)))) .answer) ⌝ }
+    ensures { λ _. ⌜ now (numbers .exit) ≡ bufferForC (now (numbers .entry)) ((formatOf (now (keys .entry)) depth
+        (buffers (now (array .entry)) (now (control .entry)) (now (cache .entry)))) .answer) ⌝ }
+    ensures { λ _. ⌜ buffers (now (array .exit)) (now (control .exit)) (now (cache .exit))
+        ≡ leftForC (now (numbers .entry)) (buffers (now (array .entry)) (now (control .entry)) (now (cache .entry)))
+        ((formatOf (now (keys .entry)) depth (buffers (now (array .entry)) (now (control .entry)) (now (cache .entry)))) .after) ⌝ }
+{
+    if numbers.len() != 24 {
+        return BAD_NUMBERS;
+    }
+    let answer = format::format(depth, keys, control, array, cache);
+    tell(answer, numbers)
+}
+
+#[no_mangle]
+pub extern "C" fn nv_read(
+    keys: &[u8],
+    control: &mut [u8],
+    array: &mut [u8],
+    cache: &mut [u8],
+    line: u64,
+    out: &mut [u8],
+    allowance: u64,
+    numbers: &mut [u8],
+) -> u32
+    ensures { λ r. ⌜ r ≡ codeForC (now (numbers .entry)) ((readOf (now (keys .entry)) line allowance (now (out .entry))
+        (buffers (now (array .entry)) (now (control .entry)) (now (cache .entry)))) .called .answer) ⌝ }
+    ensures { λ _. ⌜ now (numbers .exit) ≡ bufferForC (now (numbers .entry)) ((readOf (now (keys .entry)) line allowance (now (out .entry))
+        (buffers (now (array .entry)) (now (control .entry)) (now (cache .entry)))) .called .answer) ⌝ }
+    ensures { λ _. ⌜ buffers (now (array .exit)) (now (control .exit)) (now (cache .exit))
+        ≡ leftForC (now (numbers .entry)) (buffers (now (array .entry)) (now (control .entry)) (now (cache .entry)))
+        ((readOf (now (keys .entry)) line allowance (now (out .entry))
+        (buffers (now (array .entry)) (now (control .entry)) (now (cache .entry)))) .called .after) ⌝ }
+    ensures { λ _. ⌜ now (out .exit) ≡ leftForC (now (numbers .entry)) (now (out .entry))
+        ((readOf (now (keys .entry)) line allowance (now (out .entry))
+        (buffers (now (array .entry)) (now (control .entry)) (now (cache .entry)))) .output) ⌝ }
+{
+    if numbers.len() != 24 {
+        return BAD_NUMBERS;
+    }
+    let answer = read::read(keys, control, array, cache, line, out, allowance);
+    tell(answer, numbers)
+}
+
+#[no_mangle]
+pub extern "C" fn nv_write(
+    keys: &[u8],
+    control: &mut [u8],
+    array: &mut [u8],
+    cache: &mut [u8],
+    line: u64,
+    text: &[u8],
+    allowance: u64,
+    numbers: &mut [u8],
+) -> u32
+    ensures { λ r. ⌜ r ≡ codeForC (now (numbers .entry)) ((writeOf (now (keys .entry)) line (now (text .entry)) allowance
+        (buffers (now (array .entry)) (now (control .entry)) (now (cache .entry)))) .answer) ⌝ }
+    ensures { λ _. ⌜ now (numbers .exit) ≡ bufferForC (now (numbers .entry)) ((writeOf (now (keys .entry)) line (now (text .entry)) allowance
+        (buffers (now (array .entry)) (now (control .entry)) (now (cache .entry)))) .answer) ⌝ }
+    ensures { λ _. ⌜ buffers (now (array .exit)) (now (control .exit)) (now (cache .exit))
+        ≡ leftForC (now (numbers .entry)) (buffers (now (array .entry)) (now (control .entry)) (now (cache .entry)))
+        ((writeOf (now (keys .entry)) line (now (text .entry)) allowance
+        (buffers (now (array .entry)) (now (control .entry)) (now (cache .entry)))) .after) ⌝ }
+{
+    if numbers.len() != 24 {
+        return BAD_NUMBERS;
+    }
+    let answer = write::write(keys, control, array, cache, line, text, allowance);
+    tell(answer, numbers)
+}
+
+#[no_mangle]
+pub extern "C" fn nv_recover(
+    keys: &[u8],
+    control: &mut [u8],
+    array: &mut [u8],
+    cache: &mut [u8],
+    allowance: u64,
+    numbers: &mut [u8],
+) -> u32
+    ensures { λ r. ⌜ r ≡ codeForC (now (numbers .entry)) ((recoverOf (now (keys .entry)) allowance
+        (buffers (now (array .entry)) (now (control .entry)) (now (cache .entry)))) .answer) ⌝ }
+    ensures { λ _. ⌜ now (numbers .exit) ≡ bufferForC (now (numbers .entry)) ((recoverOf (now (keys .entry)) allowance
+        (buffers (now (array .entry)) (now (control .entry)) (now (cache .entry)))) .answer) ⌝ }
+    ensures { λ _. ⌜ buffers (now (array .exit)) (now (control .exit)) (now (cache .exit))
+        ≡ leftForC (now (numbers .entry)) (buffers (now (array .entry)) (now (control .entry)) (now (cache .entry)))
+        ((recoverOf (now (keys .entry)) allowance (buffers (now (array .entry)) (now (control .entry)) (now (cache .entry)))) .after) ⌝ }
+{
+    if numbers.len() != 24 {
+        return BAD_NUMBERS;
+    }
+    let answer = recovery::recover(keys, control, array, cache, allowance);
+    tell(answer, numbers)
+}
+
+#[no_mangle]
+pub extern "C" fn nv_dirty_pages(
+    control: &[u8],
+    cache: &[u8],
+    list: &mut [u8],
+    numbers: &mut [u8],
+) -> u32
+    ensures { λ r. ⌜ r ≡ codeForC (now (numbers .entry))
+        (listAnswer (listRefusal (now (control .entry)) (now (cache .entry)) (now (list .entry)))) ⌝ }
+    ensures { λ _. ⌜ now (numbers .exit) ≡ bufferForC (now (numbers .entry))
+        (listAnswer (listRefusal (now (control .entry)) (now (cache .entry)) (now (list .entry)))) ⌝ }
+    ensures { λ _. ⌜ ListLeft (now (numbers .entry)) (now (control .entry)) (now (cache .entry)) (now (list .entry)) (now (list .exit)) ⌝ }
+{
+    if numbers.len() != 24 {
+        return BAD_NUMBERS;
+    }
+    let answer = dirty_pages::dirty_pages(control, cache, list);
+    tell(answer, numbers)
+}
