@@ -31,42 +31,59 @@ use Rattle.calls.specs.Format.{freshRoot}
 use Rattle.calls.specs.Path.{loaded, loadPath}
 use Rattle.calls.specs.History.{Book}
 use Rattle.call_laws.proofs.Loads.{Loads, LoadsIf, path-loads}
-use Rattle.history_laws.proofs.Walked.{Walked, walked}
-use Rattle.history_laws.proofs.Written.{dataBytes, length-cipher, minor-is as minor-held, major-is as major-held}
+use Rattle.history_laws.proofs.Setting.{Setting, treeOf, treeRoot}
+use Rattle.history_laws.proofs.Walked.{Array, Walked, walked}
+use Rattle.history_laws.proofs.Written.{dataBytes, length-cipher, Reached, minor-is as minor-held, major-is as major-held}
 use Rattle.history_laws.proofs.State.{RowOk, Settled, Holds, Ready, settled-now}
 
-module _ (keys : List ℕ) (keyed : Below 256 keys) (h : ℕ) (low : 1 ≤ h) (high : h ≤ 3) (b : Book) (m : Module) (held : Holds keys h low high b m) (ready : Ready keys h low high b m)
-    (n : ℕ) (inside : n < lines h) where
-  pub was : Settled keys h low high b (mediaOf m)
-  was = settled-now keys h low high b m held (ready .idle)
+-- a line of a module that is ready
+pub record Access (S : Setting) (b : Book) (m : Module) (n : ℕ) : Type 0 where
+  pub ready : Ready S b m
+  pub inside : n < lines (S .h)
+
+module _ {S : Setting} {b : Book} {m : Module} {n : ℕ} (w : Access S b m n) where
+  open Setting S using (keys, h, low, high)
+  open Access w using (ready, inside)
+
+  abbrev held : Holds S b m
+  held = ready .holds
+
+  pub was : Settled S b (mediaOf m)
+  was = settled-now held (ready .idle)
 
   pub page : pageOf n < pages h
   page = page-inside h n inside
 
-  pub walk : Walked keys h low high (b .count) (m .array) (held .formed .array-length) (held .formed .array-bytes) keyed (pageOf n) page (m .cache)
-  walk = walked keys h low high (b .count) (m .array) (held .formed .array-length) (held .formed .array-bytes) keyed (pageOf n) page (m .cache) (ready .live)
+  pub whole : Array S (m .array)
+  whole = record { whole = held .formed .array-length; plain = held .formed .array-bytes }
+
+  pub walk : Walked (treeOf b) whole (pageOf n) page (m .cache)
+  walk = walked (treeOf b) whole (pageOf n) page (m .cache) (ready .live)
 
   pub path-is : pathOf keys n m ≡ loaded (walk .cache) (walk .cells)
   path-is = ap₂ (λ (d r : ℕ). loadPath d keys (m .array) r (pageOf n) (m .cache)) (held .deep) (was .top) ∙ walk .same
 
-  pub loads : Loads h low high keys (m .array) (held .formed .array-length) (held .formed .array-bytes) (pageOf n) page (walk .cache) (walk .cells)
+  pub loads : Loads h low high keys (m .array) (whole .whole) (whole .plain) (pageOf n) page (walk .cache) (walk .cells)
   unfolding LoadsIf
   loads =
-      subst (LoadsIf h low high keys (m .array) (held .formed .array-length) (held .formed .array-bytes) (pageOf n) page) (walk .same)
-      (path-loads h low high keys (m .array) (held .formed .array-length) (held .formed .array-bytes) (pageOf n) page (freshRoot keys (b .count) h) (m .cache) (ready .live .fit))
+      subst (LoadsIf h low high keys (m .array) (whole .whole) (whole .plain) (pageOf n) page) (walk .same)
+      (path-loads h low high keys (m .array) (whole .whole) (whole .plain) (pageOf n) page (treeRoot S (treeOf b)) (m .cache) (ready .live .fit))
+
+  pub reached : Reached S (treeOf b) (put-cells (m .array) (walk .cells)) (walk .cache) n
+  reached = record { live = walk .live; inside = inside; held = walk .path }
 
   pub minor-is : lineMinor (walk .cache) n ≡ b .count n
-  minor-is = minor-held keys h low high (b .count) (put-cells (m .array) (walk .cells)) (walk .cache) (walk .live) n inside (walk .path)
+  minor-is = minor-held reached
 
   pub major-is : major (pageBlock (walk .cache) n) ≡ 0
-  major-is = major-held keys h low high (b .count) (put-cells (m .array) (walk .cells)) (walk .cache) (walk .live) n inside (walk .path)
+  major-is = major-held reached
 
   abbrev pub stores : List Store
   stores = batchStores (walk .cells) (root (m .control))
 
   -- ---- the text
 
-  module _ (t : List ℕ) (full : length t ≡ 64) (row : part (m .array) (72 * n) 72 ≡ dataBytes keys n t (b .count n)) where
+  module _ (t : List ℕ) (full : length t ≡ 64) (row : part (m .array) (72 * n) 72 ≡ dataBytes S (treeOf b) n t) where
     abbrev cipher : List ℕ
     cipher = xorBytes t (pad keys n 0 (b .count n))
 
@@ -74,13 +91,13 @@ module _ (keys : List ℕ) (keyed : Below 256 keys) (h : ℕ) (low : 1 ≤ h) (h
     unfolding cellContent dataBytes
     cipher-is =
         sym (take-take 64 72 (drop (72 * n) (m .array)) (lit≤ tt)) ∙ ap (take 64) row
-        ∙ take-at cipher (sideBytes keys cipher n 0 (b .count n)) 64 (length-cipher keys n t full (b .count n))
+        ∙ take-at cipher (sideBytes keys cipher n 0 (b .count n)) 64 (length-cipher S (treeOf b) n t full)
 
     side-is : part (m .array) (72 * n + 64) 8 ≡ sideBytes keys cipher n 0 (b .count n)
     unfolding dataBytes
     side-is =
         sym (part-part (m .array) (72 * n) 72 64 8 (lit≤ tt)) ∙ ap (λ (l : List ℕ). part l 64 8) row
-        ∙ ap (take 8) (drop-at cipher (sideBytes keys cipher n 0 (b .count n)) 64 (length-cipher keys n t full (b .count n)))
+        ∙ ap (take 8) (drop-at cipher (sideBytes keys cipher n 0 (b .count n)) 64 (length-cipher S (treeOf b) n t full))
         ∙ take-all 8 (sideBytes keys cipher n 0 (b .count n)) (omega (arith, length-digits 256 7 (dataTag keys cipher n 0 (b .count n))))
 
     side-ok : sideOk keys (m .array) (walk .cache) n ≡ true
@@ -111,13 +128,13 @@ module _ (keys : List ℕ) (keyed : Below 256 keys) (h : ℕ) (low : 1 ≤ h) (h
     pub reads-blank : b .text n ≡ none → read keys n allowance out m ≡ answered allowance m stores (Blank (length stores)) (walk .cache) (replicate 64 0) out
     unfolding readLoaded chosen RowOk
     reads-blank e =
-        let none-yet : b .count n ≡ 0 = subst (λ (o : Option (List ℕ)). RowOk keys n (b .count n) o (m .array)) e (was .rows n inside) in
+        let none-yet : b .count n ≡ 0 = subst (λ (o : Option (List ℕ)). RowOk S (treeOf b) n o (m .array)) e (was .keeps .rows n inside) in
         opened ∙ ap (λ (x : Bool). chosen x (sideOk keys (m .array) (walk .cache) n)) (eq-eqb (lineMinor (walk .cache) n) 0 (minor-is ∙ none-yet))
 
     pub reads-text : (t : List ℕ) → b .text n ≡ some t → read keys n allowance out m ≡ answered allowance m stores (Done (length stores) 0) (walk .cache) t out
     unfolding readLoaded chosen RowOk
     reads-text t e =
-        let row = subst (λ (o : Option (List ℕ)). RowOk keys n (b .count n) o (m .array)) e (was .rows n inside) in
+        let row = subst (λ (o : Option (List ℕ)). RowOk S (treeOf b) n o (m .array)) e (was .keeps .rows n inside) in
         opened
         ∙ ap (λ (x : Bool). chosen x (sideOk keys (m .array) (walk .cache) n)) (ne-eqb (lineMinor (walk .cache) n) 0 (λ z. omega (arith, minor-is, row .0, z)))
         ∙ ap (chosen false) (side-ok t (row .1) (row .3))

@@ -22,6 +22,7 @@ use Rattle.counter.proofs.Laws.{length-minors}
 use Rattle.cache.specs.Cache.{cellContent, shadowOwner}
 use Rattle.calls.specs.Recovery.{total}
 use Rattle.calls.specs.Format.{countsFrom}
+use Rattle.history_laws.proofs.Setting.{Setting, Tree}
 use Rattle.history_laws.proofs.Tree.{length-counts, counts-agree, counts-at, fresh-minors}
 use Rattle.history_laws.proofs.Recovered.{Durable, pageSum, added}
 
@@ -67,7 +68,10 @@ split4 (suc (suc zero)) x p = omega arith
 split4 (suc (suc (suc zero))) x p = omega arith
 split4 (suc (suc (suc (suc r)))) x p = absurd (omega arith)
 
-module _ (keys : List ℕ) (h : ℕ) (high : h ≤ 3) (f : ℕ → ℕ) (a : List ℕ) (m : Durable keys h f a) where
+module _ {S : Setting} {T : Tree} {a : List ℕ} (m : Durable S T a) where
+  open Setting S using (h)
+  open Tree T using (count)
+
   abbrev block : ℕ → List ℕ
   block p = cellContent a (cellOf h (node 0 p))
 
@@ -76,15 +80,15 @@ module _ (keys : List ℕ) (h : ℕ) (high : h ≤ 3) (f : ℕ → ℕ) (a : Lis
   stored n = minor (block (pageOf n)) (placeOf n)
 
   abbrev above : ℕ → ℕ
-  above n = f n - stored n
+  above n = count n - stored n
 
   abbrev D : ℕ → ℕ
-  D p = pageSum keys h f a m p
+  D p = pageSum m p
 
-  behind : (n : ℕ) → n < lines h → stored n ≤ f n
+  behind : (n : ℕ) → n < lines h → stored n ≤ count n
   behind n q =
       let place : 64 * pageOf n + placeOf n ≡ n = omega arith in
-      subst (λ (x : ℕ). stored n ≤ f x) place (m .behind (pageOf n) (placeOf n) (page-inside h n q) (omega arith))
+      subst (λ (x : ℕ). stored n ≤ count x) place (m .behind (pageOf n) (placeOf n) (page-inside h n q) (omega arith))
 
   minors-are : (p : ℕ) → minors (block p) ≡ countsFrom stored (64 * p) 64
   minors-are p =
@@ -94,7 +98,7 @@ module _ (keys : List ℕ) (h : ℕ) (high : h ≤ 3) (f : ℕ → ℕ) (a : Lis
       let place : placeOf (64 * p + i) ≡ i = omega arith in
       sym (counts-at stored (64 * p) 64 i small ∙ ap₂ (λ (x y : ℕ). minor (block x) y) page place))
 
-  differences : (s k : ℕ) → s + k ≤ lines h → total (countsFrom above s k) + total (countsFrom stored s k) ≡ total (countsFrom f s k)
+  differences : (s k : ℕ) → s + k ≤ lines h → total (countsFrom above s k) + total (countsFrom stored s k) ≡ total (countsFrom count s k)
   unfolding total countsFrom
   differences s zero p = refl
   differences s (suc k) p = omega (arith, behind s (omega arith), differences (suc s) k (omega arith))
@@ -107,7 +111,7 @@ module _ (keys : List ℕ) (h : ℕ) (high : h ≤ 3) (f : ℕ → ℕ) (a : Lis
   unfolding pageSum
   not-listed p q o =
       let fresh = m .stored 0 p zero-le (omega (arith, nodes-bottom h)) o in
-      omega (arith, ap (λ (b : List ℕ). total (minors b)) fresh ∙ ap total (fresh-minors keys f (m .small) p))
+      omega (arith, ap (λ (b : List ℕ). total (minors b)) fresh ∙ ap total (fresh-minors S (m .small) p))
 
   by-pages : (n : ℕ) → n ≤ pages h → total (countsFrom above 0 (64 * n)) ≡ total (countsFrom D 0 n)
   unfolding total countsFrom
@@ -145,11 +149,11 @@ module _ (keys : List ℕ) (h : ℕ) (high : h ≤ 3) (f : ℕ → ℕ) (a : Lis
   lone s q page own e =
       sum-single (Z s) q 0 (pages h) zero-le (omega arith) (λ x u w z. Z-none s x (omega arith) (λ y. z (omega (arith, e, y)))) ∙ Z-on s q own
 
-  slot-sum : (s : ℕ) → s < 4 → total (countsFrom (Z s) 0 (pages h)) ≡ added keys h f a m (shadowOwner h a s)
+  slot-sum : (s : ℕ) → s < 4 → total (countsFrom (Z s) 0 (pages h)) ≡ added m (shadowOwner h a s)
   unfolding slotOf slots added
   slot-sum s p = go (shadowOwner h a s) refl
     where
-      go : (o : ℕ) → shadowOwner h a s ≡ o → total (countsFrom (Z s) 0 (pages h)) ≡ added keys h f a m o
+      go : (o : ℕ) → shadowOwner h a s ≡ o → total (countsFrom (Z s) 0 (pages h)) ≡ added m o
       go zero e = sum-zero (Z s) 0 (pages h) (λ x u w. Z-none s x (omega arith) (λ z. omega (arith, e, z)))
       go (suc q) e =
           let there = belongs-node h s q (m .owners .belong s q (omega arith) e) in
@@ -158,14 +162,14 @@ module _ (keys : List ℕ) (h : ℕ) (high : h ≤ 3) (f : ℕ → ℕ) (a : Lis
           let own : q % 4 ≡ s = subst (λ (k : ℕ). slotOf k q ≡ s) level (there .1) in
           lone s q page own e
 
-  all-pages : total (countsFrom D 0 (pages h)) ≡ added keys h f a m (shadowOwner h a 0)
-      + (added keys h f a m (shadowOwner h a 1) + (added keys h f a m (shadowOwner h a 2) + added keys h f a m (shadowOwner h a 3)))
+  all-pages : total (countsFrom D 0 (pages h)) ≡ added m (shadowOwner h a 0)
+      + (added m (shadowOwner h a 1) + (added m (shadowOwner h a 2) + added m (shadowOwner h a 3)))
   all-pages =
       ap total (counts-agree D (λ p. Z 0 p + (Z 1 p + (Z 2 p + Z 3 p))) 0 (pages h) (λ x u w. split4 (x % 4) (D x) (mod-lt x (lit< tt))))
       ∙ sum-add (Z 0) (λ p. Z 1 p + (Z 2 p + Z 3 p)) 0 (pages h)
       ∙ ap₂ _+_ (slot-sum 0 (lit< tt)) (sum-add (Z 1) (λ p. Z 2 p + Z 3 p) 0 (pages h)
       ∙ ap₂ _+_ (slot-sum 1 (lit< tt)) (sum-add (Z 2) (Z 3) 0 (pages h) ∙ ap₂ _+_ (slot-sum 2 (lit< tt)) (slot-sum 3 (lit< tt))))
 
-  pub told-is : (told : ℕ) → told ≡ 0 + total (countsFrom (λ s. added keys h f a m (shadowOwner h a s)) 0 4) → told ≡ total (countsFrom above 0 (lines h))
+  pub told-is : (told : ℕ) → told ≡ 0 + total (countsFrom (λ s. added m (shadowOwner h a s)) 0 4) → told ≡ total (countsFrom above 0 (lines h))
   unfolding total countsFrom lines
   told-is told e = omega (arith, e, all-pages, by-pages (pages h) (le-refl (pages h)))

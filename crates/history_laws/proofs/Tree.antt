@@ -25,6 +25,7 @@ use Rattle.calls.specs.Path.{childTag, renewed, tagsFrom}
 use Rattle.memory_map.proofs.Laws.{path-up, path-bottom, path-top}
 use Rattle.call_laws.proofs.Fresh.{fresh-bytes}
 use Rattle.call_laws.proofs.Tags.{tags-agree}
+use Rattle.history_laws.proofs.Setting.{Setting, Tree, Small, raised, treeNode}
 
 -- ---- a function changed at one number
 
@@ -35,6 +36,12 @@ changed-same f n x = ap (λ (b : Bool). cond b x (f n)) (eq-eqb n n refl)
 pub changed-other : {A : Type 0} (f : ℕ → A) (n : ℕ) (x : A) (k : ℕ) → (k ≡ n → ⊥) → changed f n x k ≡ f k
 unfolding changed
 changed-other f n x k e = ap (λ (b : Bool). cond b x (f k)) (ne-eqb k n e)
+
+pub raised-same : (T : Tree) (n : ℕ) → raised T n .count n ≡ suc (T .count n)
+raised-same T n = changed-same (T .count) n (suc (T .count n))
+
+pub raised-other : (T : Tree) (n x : ℕ) → (x ≡ n → ⊥) → T .count x ≡ raised T n .count x
+raised-other T n x e = sym (changed-other (T .count) n (suc (T .count n)) x e)
 
 -- ---- lists of counts
 
@@ -116,22 +123,26 @@ module _ (keys : List ℕ) (l : ℕ) (f g : ℕ → List ℕ) where
 
 -- ---- nodes
 
--- counts that agree on the lines below a node give the same node
-pub fresh-agree : (keys : List ℕ) (f g : ℕ → ℕ) (l i : ℕ) → ((x : ℕ) → onPath (pageOf x) l ≡ i → f x ≡ g x) → freshNode keys f l i ≡ freshNode keys g l i
-unfolding freshNode
-fresh-agree keys f g zero i e = ap (counterBlock 0) (counts-agree f g (64 * i) 64 (λ x p q. e x (path-bottom (pageOf x) ∙ omega arith)))
-fresh-agree keys f g (suc l) i e =
-    tags-agree keys l (freshNode keys f l) (freshNode keys g l) (8 * i) 8
-    (λ j p q. fresh-agree keys f g l j (λ x r. e x (path-up (pageOf x) l ∙ ap (λ (k : ℕ). k / 8) r ∙ omega arith)))
+module _ (S : Setting) where
+  open Setting S using (keys, keyed, h)
 
--- a node holds the tags of its children
-pub child-fresh : (keys : List ℕ) (f : ℕ → ℕ) (l i : ℕ) → Below 256 keys → childTag (freshNode keys f (suc l) (i / 8)) i ≡ nodeTag keys (freshNode keys f l i) l i
-unfolding freshNode
-child-fresh keys f l i plain =
-    let here : 8 * (i / 8) + i % 8 ≡ i = omega arith in
-    ap fromLe (tags-at keys l (freshNode keys f l) (8 * (i / 8)) 8 (i % 8) (omega arith))
-    ∙ ap (λ (j : ℕ). fromLe (toLe 8 (nodeTag keys (freshNode keys f l j) l j))) here
-    ∙ number-exact 256 8 _ (lit< tt) (nodeTag-lt keys (freshNode keys f l i) l i plain (fresh-bytes keys f l i))
+  -- counts that agree on the lines below a node give the same node
+  pub fresh-agree : (T U : Tree) (l i : ℕ) → ((x : ℕ) → onPath (pageOf x) l ≡ i → T .count x ≡ U .count x) → treeNode S T l i ≡ treeNode S U l i
+  unfolding freshNode
+  fresh-agree T U zero i e =
+      ap (counterBlock 0) (counts-agree (T .count) (U .count) (64 * i) 64 (λ x p q. e x (path-bottom (pageOf x) ∙ omega arith)))
+  fresh-agree T U (suc l) i e =
+      tags-agree keys l (treeNode S T l) (treeNode S U l) (8 * i) 8
+      (λ j p q. fresh-agree T U l j (λ x r. e x (path-up (pageOf x) l ∙ ap (λ (k : ℕ). k / 8) r ∙ omega arith)))
+
+  -- a node holds the tags of its children
+  pub child-fresh : (T : Tree) (l i : ℕ) → childTag (treeNode S T (suc l) (i / 8)) i ≡ nodeTag keys (treeNode S T l i) l i
+  unfolding freshNode
+  child-fresh T l i =
+      let here : 8 * (i / 8) + i % 8 ≡ i = omega arith in
+      ap fromLe (tags-at keys l (treeNode S T l) (8 * (i / 8)) 8 (i % 8) (omega arith))
+      ∙ ap (λ (j : ℕ). fromLe (toLe 8 (nodeTag keys (treeNode S T l j) l j))) here
+      ∙ number-exact 256 8 _ (lit< tt) (nodeTag-lt keys (treeNode S T l i) l i keyed (fresh-bytes keys (T .count) l i))
 
 -- ---- counter blocks
 
@@ -146,42 +157,53 @@ counts-at f n zero j p = absurd (omega arith)
 counts-at f n (suc k) zero p = ap f (omega arith)
 counts-at f n (suc k) (suc j) p = let next : suc n + j ≡ n + suc j = omega arith in counts-at f (suc n) k j (omega arith) ∙ ap f next
 
-module _ (keys : List ℕ) (f : ℕ → ℕ) (small : (x : ℕ) → f x < 128) (p : ℕ) where
-  pub fresh-minors : minors (freshNode keys f 0 p) ≡ countsFrom f (64 * p) 64
-  unfolding freshNode
-  fresh-minors = minors-counterBlock 0 (countsFrom f (64 * p) 64) (length-counts f (64 * p) 64) (counts-below f (64 * p) 64 small)
+module _ (S : Setting) {T : Tree} (small : Small T) (p : ℕ) where
+  open Tree T using (count)
 
-  pub fresh-major : major (freshNode keys f 0 p) ≡ 0
+  pub fresh-minors : minors (treeNode S T 0 p) ≡ countsFrom count (64 * p) 64
   unfolding freshNode
-  fresh-major = major-counterBlock 0 (countsFrom f (64 * p) 64) (lit< tt)
+  fresh-minors =
+      minors-counterBlock 0 (countsFrom count (64 * p) 64) (length-counts count (64 * p) 64) (counts-below count (64 * p) 64 (small .minor))
+
+  pub fresh-major : major (treeNode S T 0 p) ≡ 0
+  unfolding freshNode
+  fresh-major = major-counterBlock 0 (countsFrom count (64 * p) 64) (lit< tt)
 
   -- a block has the counts of its lines as minors
-  pub fresh-minor : (j : ℕ) → j < 64 → minor (freshNode keys f 0 p) j ≡ f (64 * p + j)
-  fresh-minor j q = ap (λ (ms : List ℕ). getD ms j 0) fresh-minors ∙ counts-at f (64 * p) 64 j q
+  pub fresh-minor : (j : ℕ) → j < 64 → minor (treeNode S T 0 p) j ≡ count (64 * p + j)
+  fresh-minor j q = ap (λ (ms : List ℕ). getD ms j 0) fresh-minors ∙ counts-at count (64 * p) 64 j q
 
   -- and one with another minor is the block of other counts
-  pub fresh-with : (g : ℕ → ℕ) (j : ℕ) → ((x : ℕ) → (x ≡ 64 * p + j → ⊥) → f x ≡ g x) → withMinor (freshNode keys f 0 p) j (g (64 * p + j)) ≡ freshNode keys g 0 p
+  pub fresh-with : (U : Tree) (j : ℕ) → ((x : ℕ) → (x ≡ 64 * p + j → ⊥) → count x ≡ U .count x)
+      → withMinor (treeNode S T 0 p) j (U .count (64 * p + j)) ≡ treeNode S U 0 p
   unfolding withMinor freshNode
-  fresh-with g j e = ap₂ (λ (m : ℕ) (ms : List ℕ). counterBlock m (set ms j (g (64 * p + j)))) fresh-major fresh-minors ∙ ap (counterBlock 0) (counts-set f g (64 * p) 64 j e)
+  fresh-with U j e =
+      ap₂ (λ (m : ℕ) (ms : List ℕ). counterBlock m (set ms j (U .count (64 * p + j)))) fresh-major fresh-minors
+      ∙ ap (counterBlock 0) (counts-set count (U .count) (64 * p) 64 j e)
 
 -- ---- writing
 
--- where the cache has the path of page p in the tree of f, and g differs from f on that page alone, the path is renewed to the tree of g
-module _ (keys : List ℕ) (h p : ℕ) (c : List ℕ) (f g : ℕ → ℕ)
-    (path : (l : ℕ) → l ≤ h → content c (slotOf l (onPath p l)) ≡ freshNode keys f l (onPath p l))
-    (same : (x : ℕ) → (pageOf x ≡ p → ⊥) → f x ≡ g x) where
+-- the cache c has the path of page p in the tree T, and the tree U differs from it on that page alone
+pub record Path (S : Setting) (T U : Tree) (p : ℕ) (c : List ℕ) : Type 0 where
+  pub fresh : (l : ℕ) → l ≤ S .h → content c (slotOf l (onPath p l)) ≡ treeNode S T l (onPath p l)
+  pub same : (x : ℕ) → (pageOf x ≡ p → ⊥) → T .count x ≡ U .count x
+
+-- the path is then renewed to that of U
+module _ {S : Setting} {T U : Tree} {p : ℕ} {c : List ℕ} (path : Path S T U p c) where
+  open Setting S using (keys, h)
+
   -- one level further up
-  above : (l i u : ℕ) → 8 * u + i % 8 ≡ i → ((j : ℕ) → (j ≡ i → ⊥) → (x : ℕ) → onPath (pageOf x) l ≡ j → f x ≡ g x)
-      → put (freshNode keys f (suc l) u) (8 * (i % 8)) (toLe 8 (nodeTag keys (freshNode keys g l i) l i)) ≡ freshNode keys g (suc l) u
+  above : (l i u : ℕ) → 8 * u + i % 8 ≡ i → ((j : ℕ) → (j ≡ i → ⊥) → (x : ℕ) → onPath (pageOf x) l ≡ j → T .count x ≡ U .count x)
+      → put (treeNode S T (suc l) u) (8 * (i % 8)) (toLe 8 (nodeTag keys (treeNode S U l i) l i)) ≡ treeNode S U (suc l) u
   unfolding freshNode
   above l i u split apart =
-      ap (λ (k : ℕ). put (freshNode keys f (suc l) u) (8 * (i % 8)) (toLe 8 (nodeTag keys (freshNode keys g l k) l k))) (sym split)
-      ∙ tags-put keys l (freshNode keys f l) (freshNode keys g l) (8 * u) 8 (i % 8) (omega arith)
-      (λ j d. fresh-agree keys f g l j (apart j (λ z. d (z ∙ sym split))))
+      ap (λ (k : ℕ). put (treeNode S T (suc l) u) (8 * (i % 8)) (toLe 8 (nodeTag keys (treeNode S U l k) l k))) (sym split)
+      ∙ tags-put keys l (treeNode S T l) (treeNode S U l) (8 * u) 8 (i % 8) (omega arith)
+      (λ j d. fresh-agree S T U l j (apart j (λ z. d (z ∙ sym split))))
 
-  pub renewed-fresh : (l : ℕ) → l ≤ h → renewed keys c p (freshNode keys g 0 p) l ≡ freshNode keys g l (onPath p l)
+  pub renewed-fresh : (l : ℕ) → l ≤ h → renewed keys c p (treeNode S U 0 p) l ≡ treeNode S U l (onPath p l)
   unfolding renewed
-  renewed-fresh zero q = ap (freshNode keys g 0) (sym (path-bottom p))
+  renewed-fresh zero q = ap (treeNode S U 0) (sym (path-bottom p))
   renewed-fresh (suc l) q =
-      ap₂ (λ (s t : List ℕ). put s (8 * (onPath p l % 8)) (toLe 8 (nodeTag keys t l (onPath p l)))) (path (suc l) q) (renewed-fresh l (omega arith))
-      ∙ above l (onPath p l) (onPath p (suc l)) (omega (arith, path-up p l)) (λ j d x r. same x (λ z. d (sym r ∙ ap (λ (y : ℕ). onPath y l) z)))
+      ap₂ (λ (s t : List ℕ). put s (8 * (onPath p l % 8)) (toLe 8 (nodeTag keys t l (onPath p l)))) (path .fresh (suc l) q) (renewed-fresh l (omega arith))
+      ∙ above l (onPath p l) (onPath p (suc l)) (omega (arith, path-up p l)) (λ j d x r. path .same x (λ z. d (sym r ∙ ap (λ (y : ℕ). onPath y l) z)))

@@ -1,0 +1,39 @@
+-- What the laws of a history are about: the keys and the depth of its module, and what a fresh tree is made of. Assumes nothing.
+use mathlib.Core.Path.{_≡_}
+use mathlib.Core.List.{List}
+use Prim.Native.Nat.{ℕ, suc, _≤_, _<_}
+use lib.ListN.{length}
+use Rattle.words.proofs.Digits.{Below}
+use Rattle.calls.specs.Format.{freshNode, freshRoot}
+use Rattle.calls.specs.History.{Book, changed}
+
+-- what stays the same through a history
+pub record Setting : Type 0 where
+  pub keys : List ℕ
+  pub keyed : Below 256 keys
+  pub k48 : length keys ≡ 48
+  pub h : ℕ
+  pub low : 1 ≤ h
+  pub high : h ≤ 3
+
+-- what a fresh tree is made of: a count for each line
+pub record Tree : Type 0 where
+  pub count : ℕ → ℕ
+
+-- what its blocks can hold
+pub record Small (T : Tree) : Type 0 where
+  pub minor : (n : ℕ) → T .count n < 128
+
+abbrev pub treeOf : Book → Tree
+treeOf b = record { count = b .count }
+
+-- with one write more of line n
+abbrev pub raised : Tree → ℕ → Tree
+raised T n = record { count = changed (T .count) n (suc (T .count n)) }
+
+-- a node of the fresh tree, and the root
+abbrev pub treeNode : Setting → Tree → ℕ → ℕ → List ℕ
+treeNode S T l i = freshNode (S .keys) (T .count) l i
+
+abbrev pub treeRoot : Setting → Tree → ℕ
+treeRoot S T = freshRoot (S .keys) (T .count) (S .h)
