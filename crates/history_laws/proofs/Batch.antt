@@ -11,7 +11,7 @@ use Rattle.words.specs.Bytes.{fromLe, toLe, part}
 use Rattle.words.proofs.Digits.{length-digits, number-exact}
 use Rattle.words.proofs.Puts.{part-put-before, part-put-same}
 use Rattle.memory_map.specs.Map.{cells, arrayLength}
-use Rattle.control.specs.Control.{Cell, controlLength, depth, root, count, inMap, validHead, valid}
+use Rattle.control.specs.Control.{Cell, controlLength, depth, root, count, inMap}
 use Rattle.control.proofs.Laws.{root-at, front-count, front-root, same-depth, same-head}
 use Rattle.journal.specs.Journal.{Store, Media, media, storeAll, finish, batchStores, made}
 use Rattle.journal.proofs.Each.{Each, each-take}

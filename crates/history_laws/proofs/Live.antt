@@ -4,14 +4,14 @@ use mathlib.Core.Path.{_≡_, refl, sym, ap, ap₂, _∙_, subst}
 use mathlib.Core.Logic.{_⊎_, inl, inr}
 use mathlib.Core.Bool.{Bool, true, false, cond, false≢true}
 use mathlib.Core.List.{List, [], _∷_, _++_}
-use Prim.Native.Nat.{ℕ, zero, suc, _-_, _*_, _^_, _≤_, _<_}
+use Prim.Native.Nat.{ℕ, zero, suc, _-_, _*_, _≤_, _<_}
 use native.Mathlib.Nat.{le-refl}
 use native.Mathlib.Omega.{arith}
 use borrow.Author.Tests.{eq-eqb, ne-eqb}
 use lib.ListN.{length, replicate}
 use Rattle.words.specs.Bytes.{toLe, part, put}
 use Rattle.words.proofs.Order.{eq-or-not}
-use Rattle.memory_map.specs.Map.{lines, nodes, slots, arrayLength, cellOf}
+use Rattle.memory_map.specs.Map.{lines, nodes, slots, cellOf}
 use Rattle.memory_map.specs.Map.Item.{node, shadow}
 use Rattle.memory_map.proofs.Laws.{nodes-small, nodes-top}
 use Rattle.slot_map.specs.Slots.{slotOf, levelOf}
@@ -20,14 +20,13 @@ use Rattle.control.specs.Control.{Cell}
 use Rattle.cache.specs.Cache.{owner, dirty, content, shadowOwner, cellContent, withSlot, topSlot, holds, current}
 use Rattle.cache.proofs.Laws.{owner-same, content-same, owner-other, dirty-other, content-other, holds-owner, owner-holds, slot-holds, current-cached, current-missing}
 use Rattle.journal.proofs.Again.{put-cells}
-use Rattle.calls.specs.Format.{freshNode}
 use Rattle.calls.specs.Path.{evicted, nodeCell}
 use Rattle.call_laws.proofs.Fresh.{fresh-length}
 use Rattle.call_laws.proofs.Loads.{Fit}
 use Rattle.history_laws.proofs.Setting.{Setting, Tree, treeNode}
 use Rattle.history_laws.proofs.Recovered.{Durable}
 use Rattle.history_laws.proofs.Stores.{with-node, node-same, other-level, node-lines, shadow-kept, fresh-kept, node-durable}
-use Rattle.history_laws.proofs.Stores.{Vacant, with-shadow, shadow-lines, listed-same, listed-other, nodes-kept, shadow-durable}
+use Rattle.history_laws.proofs.Stores.{Vacant, shadow-lines, listed-same, listed-other, nodes-kept, shadow-durable}
 
 module _ (S : Setting) (T : Tree) where
   open Setting S using (h)

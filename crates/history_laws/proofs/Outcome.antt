@@ -30,7 +30,7 @@ abbrev pub cutAmong : ℕ → Module → List Store → Called
 cutAmong allowance m xs =
     record { answer = Cut (length (made allowance xs)); after = withMedia (storeAll (mediaOf m) (made allowance xs)) (m .cache) }
 
-abbrev pub allStored : ℕ → Module → List Store → Answer → List ℕ → Called
+abbrev allStored : ℕ → Module → List Store → Answer → List ℕ → Called
 allStored allowance m xs answer c = record { answer = answer; after = withMedia (storeAll (mediaOf m) (made allowance xs)) c }
 
 -- the two ways in which stores end

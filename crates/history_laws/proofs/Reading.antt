@@ -4,7 +4,7 @@ use mathlib.Core.Path.{_≡_, sym, ap, ap₂, _∙_, subst}
 use mathlib.Core.Bool.{Bool, true, false, cond}
 use mathlib.Core.List.{List}
 use mathlib.Core.Option.{Option, none, some}
-use Prim.Native.Nat.{ℕ, _+_, _*_, _≤_, _<_}
+use Prim.Native.Nat.{ℕ, _+_, _*_, _<_}
 use native.Mathlib.Omega.{arith}
 use borrow.Author.Tests.{eq-eqb, ne-eqb}
 use lib.Dec.{lit≤}
@@ -12,7 +12,7 @@ use lib.ListN.{length, replicate, take, drop}
 use lib.Seq.{take-at, drop-at, take-all, take-take}
 use Rattle.memory_map.proofs.Laws.{page-inside}
 use Rattle.words.specs.Bytes.{fromLe, part}
-use Rattle.words.proofs.Digits.{Below, length-digits}
+use Rattle.words.proofs.Digits.{length-digits}
 use Rattle.words.proofs.Parts.{part-part}
 use Rattle.memory_map.specs.Map.{pageOf, pages, lines}
 use Rattle.counter.specs.Counter.{major}
@@ -27,7 +27,6 @@ use Rattle.journal.specs.Journal.{Store, batchStores}
 use Rattle.journal.proofs.Again.{put-cells}
 use Rattle.calls.specs.Call.{Module, mediaOf, refuse, pathOf, accessRefusal}
 use Rattle.calls.specs.Read.{Reading, sideBytes, sideOk, lineText, pageBlock, lineMinor, answered, readLoaded, readPath, readJudged, read, refusedRead}
-use Rattle.calls.specs.Format.{freshRoot}
 use Rattle.calls.specs.Path.{loaded, loadPath}
 use Rattle.calls.specs.History.{Book}
 use Rattle.call_laws.proofs.Loads.{Loads, LoadsIf, path-loads}

@@ -3,19 +3,18 @@
 use mathlib.Core.Path.{_≡_, refl, sym, ap, _∙_, subst}
 use mathlib.Core.Logic.{_⊎_, inl, inr}
 use mathlib.Core.List.{List}
-use Prim.Native.Nat.{ℕ, zero, suc, _^_, _≤_, _<_, zero-le}
+use Prim.Native.Nat.{ℕ, zero, suc, _^_, _≤_, _<_}
 use native.Mathlib.Nat.{le-refl}
 use native.Mathlib.Omega.{arith}
 use lib.ListN.{length}
 use Rattle.words.proofs.Digits.{Below}
 use Rattle.words.proofs.Order.{eq-or-not}
-use Rattle.memory_map.specs.Map.{pageOf, pages, slots, onPath}
+use Rattle.memory_map.specs.Map.{pages, slots, onPath}
 use Rattle.memory_map.proofs.Laws.{path-bottom, nodes-small, path-within}
 use Rattle.slot_map.specs.Slots.{cacheLength, slotOf, levelOf}
 use Rattle.slot_map.proofs.Laws.{slot-within, level-slot}
 use Rattle.cache.specs.Cache.{owner, dirty, content, withSlot}
 use Rattle.cache.proofs.Laws.{length-with, below-with, owner-same, dirty-same, content-same, owner-other, dirty-other, content-other}
-use Rattle.calls.specs.Format.{freshNode}
 use Rattle.calls.specs.Path.{renewed, renewPath}
 use Rattle.call_laws.proofs.Fresh.{fresh-length, fresh-bytes}
 use Rattle.call_laws.proofs.Loads.{Fit}

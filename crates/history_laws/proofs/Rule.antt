@@ -9,12 +9,11 @@ use native.Mathlib.Omega.{arith}
 use borrow.Author.Tests.{lt-leb}
 use lib.Dec.{leb, ltb}
 use lib.ListN.{length, replicate}
-use Rattle.words.proofs.Digits.{Below}
 use Rattle.memory_map.specs.Map.{pageOf, placeOf, lines, arrayLength}
 use Rattle.memory_map.proofs.Laws.{nodes-bottom, page-inside}
 use Rattle.slot_map.specs.Slots.{cacheLength}
 use Rattle.counter.specs.Counter.{minor, phaseOf}
-use Rattle.answer.specs.declared.Answer.the-variants.{Done, Blank, Cut, Refused}
+use Rattle.answer.specs.declared.Answer.the-variants.{Done, Blank, Cut}
 use Rattle.answer.specs.Answer.{codeOf, storesOf, firstOf}
 use Rattle.control.specs.Control.{controlLength, depth}
 use Rattle.cache.specs.Cache.{formed}
@@ -26,7 +25,7 @@ use Rattle.calls.specs.Recovery.{recover, total}
 use Rattle.calls.specs.Format.{formatRefusal, formatted, format, countsFrom}
 use Rattle.calls.specs.History.{recovers, Book, emptyBook, Allowed, moduleAfter, bookOf, counter, storedMinor, NotCut, Gives, Restored, NotRefused, HistoryRule}
 use Rattle.call_laws.proofs.Judged.{format-accepted}
-use Rattle.history_laws.proofs.Setting.{Setting, treeOf}
+use Rattle.history_laws.proofs.Setting.{Setting}
 use Rattle.history_laws.proofs.Tree.{counts-agree, fresh-minor}
 use Rattle.history_laws.proofs.Live.{live-current}
 use Rattle.history_laws.proofs.State.{Settled, Holds, Ready, settled-now}

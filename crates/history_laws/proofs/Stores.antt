@@ -15,7 +15,7 @@ use Rattle.words.proofs.Digits.{length-digits, number-exact}
 use Rattle.words.proofs.Order.{lt-eq-gt, eq-or-not}
 use Rattle.words.proofs.Parts.{length-put}
 use Rattle.words.proofs.Puts.{getD-part, part-put-in, part-put-before, part-put-after}
-use Rattle.memory_map.specs.Map.{pages, lines, nodes, slots, cells, arrayLength, cellOf, InMap, Item}
+use Rattle.memory_map.specs.Map.{pages, lines, nodes, slots, arrayLength, cellOf, InMap, Item}
 use Rattle.memory_map.specs.Map.Item.{line, node, shadow}
 use Rattle.memory_map.proofs.Laws.{cell-within, cell-injective, nodes-bottom}
 use Rattle.slot_map.specs.Slots.{slotOf, levelOf, belongs}
@@ -23,7 +23,6 @@ use Rattle.slot_map.proofs.Laws.{slot-within, level-slot, node-belongs}
 use Rattle.counter.specs.Counter.{major, minor, phaseOf}
 use Rattle.cache.specs.Cache.{cellContent, shadowOwner, topSlot}
 use Rattle.calls.specs.Recovery.{phaseByte}
-use Rattle.calls.specs.Format.{freshNode}
 use Rattle.call_laws.proofs.Fresh.{fresh-length}
 use Rattle.history_laws.proofs.Setting.{Setting, Tree, treeNode}
 use Rattle.history_laws.proofs.Tree.{fresh-major, fresh-minor}
@@ -49,11 +48,11 @@ second (shadow s) = 0
 apart : (x y : Item) → (kind x ≡ kind y → ⊥) → x ≡ y → ⊥
 apart x y e q = e (ap kind q)
 
-pub in-node : (h l i : ℕ) → l ≤ h → i < nodes h l → InMap h (node l i)
+in-node : (h l i : ℕ) → l ≤ h → i < nodes h l → InMap h (node l i)
 unfolding InMap
 in-node h l i p q = (p, q)
 
-pub in-shadow : (h s : ℕ) → s < slots h → InMap h (shadow s)
+in-shadow : (h s : ℕ) → s < slots h → InMap h (shadow s)
 unfolding InMap
 in-shadow h s p = p
 

@@ -3,8 +3,8 @@
 use mathlib.Core.Path.{_≡_, refl, sym, ap, ap₂, _∙_}
 use mathlib.Core.Bool.{Bool, cond}
 use mathlib.Core.List.{List, _∷_, _++_, append-assoc}
-use Prim.Native.Nat.{ℕ, zero, suc, _+_, _*_, _/_, _%_, _^_, _≤_, _<_}
-use native.Mathlib.Nat.{le-refl, div-div-eq-div-mul, pow-suc, div-eq-of-lt}
+use Prim.Native.Nat.{ℕ, zero, suc, _+_, _*_, _/_, _%_, _≤_, _<_}
+use native.Mathlib.Nat.{le-refl}
 use native.Mathlib.Omega.{arith}
 use borrow.Author.Tests.{eq-eqb, ne-eqb}
 use lib.Dec.{lit<}
@@ -12,7 +12,7 @@ use lib.ListN.{length, getD, set, take, drop}
 use lib.Seq.{take-append-add, drop-append-add, take-at, drop-at}
 use Rattle.words.specs.Bytes.{fromLe, toLe, part, put}
 use Rattle.words.proofs.Digits.{Below, below-nil, below-cons, length-digits, number-exact}
-use Rattle.memory_map.specs.Map.{pageOf, pages, onPath}
+use Rattle.memory_map.specs.Map.{pageOf, onPath}
 use Rattle.slot_map.specs.Slots.{slotOf}
 use Rattle.counter.specs.Counter.{major, minors, minor, counterBlock, withMinor}
 use Rattle.counter.proofs.Laws.{major-counterBlock, minors-counterBlock}
@@ -22,7 +22,7 @@ use Rattle.cache.specs.Cache.{content}
 use Rattle.calls.specs.Format.{countsFrom, freshNode}
 use Rattle.calls.specs.History.{changed}
 use Rattle.calls.specs.Path.{childTag, renewed, tagsFrom}
-use Rattle.memory_map.proofs.Laws.{path-up, path-bottom, path-top}
+use Rattle.memory_map.proofs.Laws.{path-up, path-bottom}
 use Rattle.call_laws.proofs.Fresh.{fresh-bytes}
 use Rattle.call_laws.proofs.Tags.{tags-agree}
 use Rattle.history_laws.proofs.Setting.{Setting, Tree, Small, raised, treeNode}
@@ -57,7 +57,7 @@ counts-agree f g n (suc k) e =
     ap₂ (λ (a : ℕ) (b : List ℕ). a ∷ b) (e n (le-refl n) (omega arith)) (counts-agree f g (suc n) k (λ x p q. e x (omega arith) (omega arith)))
 
 -- one count replaced
-pub counts-set : (f g : ℕ → ℕ) (n k j : ℕ) → ((x : ℕ) → (x ≡ n + j → ⊥) → f x ≡ g x) → set (countsFrom f n k) j (g (n + j)) ≡ countsFrom g n k
+counts-set : (f g : ℕ → ℕ) (n k j : ℕ) → ((x : ℕ) → (x ≡ n + j → ⊥) → f x ≡ g x) → set (countsFrom f n k) j (g (n + j)) ≡ countsFrom g n k
 unfolding countsFrom
 counts-set f g n zero j e = refl
 counts-set f g n (suc k) zero e =
@@ -71,7 +71,7 @@ counts-set f g n (suc k) (suc j) e =
 
 module _ (keys : List ℕ) (l : ℕ) where
   -- the tag at place k
-  pub tags-at : (f : ℕ → List ℕ) (i n k : ℕ) → k < n → part (tagsFrom keys l f i n) (8 * k) 8 ≡ toLe 8 (nodeTag keys (f (i + k)) l (i + k))
+  tags-at : (f : ℕ → List ℕ) (i n k : ℕ) → k < n → part (tagsFrom keys l f i n) (8 * k) 8 ≡ toLe 8 (nodeTag keys (f (i + k)) l (i + k))
   unfolding tagsFrom
   tags-at f i zero k p = absurd (omega arith)
   tags-at f i (suc n) zero p =
@@ -102,7 +102,7 @@ module _ (keys : List ℕ) (l : ℕ) (f g : ℕ → List ℕ) where
   tag8 i b = length-digits 256 8 (nodeTag keys b l i)
 
   -- one tag replaced
-  pub tags-put : (i n k : ℕ) → k < n → ((j : ℕ) → (j ≡ i + k → ⊥) → f j ≡ g j)
+  tags-put : (i n k : ℕ) → k < n → ((j : ℕ) → (j ≡ i + k → ⊥) → f j ≡ g j)
       → put (tagsFrom keys l f i n) (8 * k) (toLe 8 (nodeTag keys (g (i + k)) l (i + k))) ≡ tagsFrom keys l g i n
   unfolding tagsFrom
   tags-put i zero k p e = absurd (omega arith)

@@ -23,7 +23,6 @@ use Rattle.control.specs.Control.{Cell}
 use Rattle.cache.specs.Cache.{owner, content, cellContent, withSlot, topSlot, holds}
 use Rattle.cache.proofs.Laws.{holds-owner}
 use Rattle.journal.proofs.Again.{put-cells, put-cells-append}
-use Rattle.calls.specs.Format.{freshNode, freshRoot}
 use Rattle.calls.specs.Path.{childTag, evicted, shadowCell, Loaded, loaded, differs, loadNode, loadLevels, loadPath}
 use Rattle.call_laws.proofs.Loads.{Fit, slot-fit}
 use Rattle.history_laws.proofs.Setting.{Setting, Tree, treeNode, treeRoot}

@@ -4,7 +4,7 @@ use mathlib.Core.Logic.{_⊎_, inl, inr}
 use mathlib.Core.Bool.{Bool, true, cond}
 use mathlib.Core.List.{List, [], _∷_, _++_}
 use mathlib.Core.Option.{Option, none, some}
-use Prim.Native.Nat.{ℕ, zero, suc, _+_, _*_, _^_, _≤_, _<_, zero-le}
+use Prim.Native.Nat.{ℕ, zero, suc, _+_, _*_, _≤_, _<_, zero-le}
 use native.Mathlib.Omega.{arith}
 use borrow.Author.Tests.{ne-eqb}
 use lib.Dec.{eqb}
@@ -13,9 +13,7 @@ use Rattle.words.specs.Bytes.{part, put}
 use Rattle.words.proofs.Digits.{Below}
 use Rattle.words.proofs.Order.{lt-or-ge, eq-or-not}
 use Rattle.words.proofs.Words.{part-lt}
-use Rattle.memory_map.specs.Map.{pageOf, lines, onPath}
-use Rattle.slot_map.specs.Slots.{slotOf}
-use Rattle.cache.specs.Cache.{owner}
+use Rattle.memory_map.specs.Map.{pageOf, lines}
 use Rattle.counter.specs.Counter.{phaseOf}
 use Rattle.pad.specs.Pad.{pad, xorBytes}
 use Rattle.tag.proofs.Tags.{nodeTag-lt}
@@ -31,11 +29,11 @@ use Rattle.calls.specs.Call.{Module, Called, mediaOf, withMedia, storing, refus
 use Rattle.calls.specs.Read.{sideBytes, lineMinor}
 use Rattle.calls.specs.Write.{newBlock, stopLoss, dataCell, writeBatch, writeStores, writtenCache, writeLoaded, writePath, writeJudged, write}
 use Rattle.calls.specs.Recovery.{total}
-use Rattle.calls.specs.Format.{freshNode, freshRoot, countsFrom}
+use Rattle.calls.specs.Format.{countsFrom}
 use Rattle.calls.specs.Path.{nodeCell, renewPath, renewedRoot}
-use Rattle.calls.specs.History.{Book, changed, entered}
+use Rattle.calls.specs.History.{Book, entered}
 use Rattle.call_laws.proofs.Judged.{Accepted, access-accepted}
-use Rattle.call_laws.proofs.Kept.{Bytes, batch-sound, batch-bound}
+use Rattle.call_laws.proofs.Kept.{batch-sound, batch-bound}
 use Rattle.call_laws.proofs.Loads.{Sound}
 use Rattle.call_laws.proofs.Fresh.{fresh-bytes}
 use Rattle.history_laws.proofs.Setting.{Setting, Tree, treeOf, raised, treeNode, treeRoot}
@@ -43,14 +41,14 @@ use Rattle.history_laws.proofs.Tree.{counts-agree, changed-same, change
 use Rattle.history_laws.proofs.Stores.{line-cell}
 use Rattle.history_laws.proofs.Live.{Live}
 use Rattle.history_laws.proofs.Written.{dataBytes, data-agree, new-block, new-root, Entry, written, row-other, row-same, live-written}
-use Rattle.history_laws.proofs.State.{RowOk, Settled, Holds, Ready, settled-holds, all-bytes}
+use Rattle.history_laws.proofs.State.{RowOk, Settled, Holds, settled-holds, all-bytes}
 use Rattle.history_laws.proofs.Batch.{Batch}
 use Rattle.history_laws.proofs.Outcome.{no-elements, Outcome, done, cases, stored}
 use Rattle.history_laws.proofs.Reading.{Access, was, walk, loads, reached, minor-is, major-is, path-is}
 
 -- ---- rows
 
-pub row-moved : (S : Setting) (T U : Tree) (i : ℕ) (a e : List ℕ) (o : Option (List ℕ)) → T .count i ≡ U .count i
+row-moved : (S : Setting) (T U : Tree) (i : ℕ) (a e : List ℕ) (o : Option (List ℕ)) → T .count i ≡ U .count i
     → part e (72 * i) 72 ≡ part a (72 * i) 72 → RowOk S T i o a → RowOk S U i o e
 unfolding RowOk
 row-moved S T U i a e none z q r = sym z ∙ r

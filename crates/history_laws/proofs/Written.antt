@@ -32,9 +32,7 @@ use Rattle.journal.proofs.Again.{put-cells}
 use Rattle.calls.specs.Read.{sideBytes, pageBlock, lineMinor}
 use Rattle.calls.specs.Write.{newBlock}
 use Rattle.calls.specs.Recovery.{phaseByte}
-use Rattle.calls.specs.Format.{freshNode, freshRoot}
 use Rattle.calls.specs.Path.{nodeCell, renewPath, renewedRoot}
-use Rattle.calls.specs.History.{changed}
 use Rattle.call_laws.proofs.Fresh.{fresh-length}
 use Rattle.call_laws.proofs.Loads.{Fit}
 use Rattle.history_laws.proofs.Setting.{Setting, Tree, Small, raised, treeNode, treeRoot}
