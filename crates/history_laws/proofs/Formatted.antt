@@ -10,15 +10,14 @@ use Rattle.words.specs.Bytes.{fromLe, part}
 use Rattle.words.proofs.Digits.{below-take, below-drop}
 use Rattle.words.proofs.Zeros.{below-zeros, number-zeros}
 use Rattle.memory_map.specs.Map.{pages, lines, levelStart, shadowStart, shadowCells, cellOf}
-use Rattle.memory_map.specs.Map.Item.{node}
 use Rattle.memory_map.proofs.Laws.{nodes-bottom}
 use Rattle.counter.specs.Counter.{major, minor}
-use Rattle.cache.specs.Cache.{cellContent, shadowOwner}
+use Rattle.cache.specs.Cache.{shadowOwner}
 use Rattle.calls.specs.Recovery.{phaseByte}
 use Rattle.calls.specs.Format.{freshArray}
 use Rattle.call_laws.proofs.Fresh.{array-length}
 use Rattle.call_laws.proofs.FreshCells.{none, lines-zero, shadows-zero, node-stored}
-use Rattle.history_laws.proofs.Setting.{Setting, Tree, Small, treeNode}
+use Rattle.history_laws.proofs.Setting.{Setting, Tree, Small, treeNode, nodeIn}
 use Rattle.history_laws.proofs.Tree.{fresh-major, fresh-minor}
 use Rattle.history_laws.proofs.Recovered.{Durable}
 
@@ -47,10 +46,10 @@ module _ (S : Setting) where
       sym (getD-take (72 * lines h) (freshArray keys h) (72 * n + 64) 0 (omega arith))
       ∙ ap (λ (a : List ℕ). getD a (72 * n + 64) 0) (lines-zero keys h) ∙ getD-replicate (72 * lines h) (72 * n + 64) 0 0 (omega arith)
 
-  fresh-page : (p : ℕ) → p < pages h → cellContent (freshArray keys h) (cellOf h (node 0 p)) ≡ treeNode S noWrites 0 p
+  fresh-page : (p : ℕ) → p < pages h → nodeIn S (freshArray keys h) 0 p ≡ treeNode S noWrites 0 p
   fresh-page p q = node-stored keys h 0 p zero-le (omega (arith, nodes-bottom h))
 
-  no-minor : (p j : ℕ) → p < pages h → j < 64 → minor (cellContent (freshArray keys h) (cellOf h (node 0 p))) j ≡ 0
+  no-minor : (p j : ℕ) → p < pages h → j < 64 → minor (nodeIn S (freshArray keys h) 0 p) j ≡ 0
   no-minor p j q r = ap (λ (b : List ℕ). minor b j) (fresh-page p q) ∙ fresh-minor S no-counts p j r
 
   pub formatted-durable : Durable S noWrites (freshArray keys h)

@@ -12,18 +12,18 @@ use lib.ListN.{length, replicate}
 use Rattle.words.specs.Bytes.{toLe, part, put}
 use Rattle.words.proofs.Order.{eq-or-not}
 use Rattle.memory_map.specs.Map.{lines, nodes, slots, cellOf}
-use Rattle.memory_map.specs.Map.Item.{node, shadow}
+use Rattle.memory_map.specs.Map.Item.{shadow}
 use Rattle.memory_map.proofs.Laws.{nodes-small, nodes-top}
 use Rattle.slot_map.specs.Slots.{slotOf, levelOf}
 use Rattle.slot_map.proofs.Laws.{slot-within, level-slot, level-within}
 use Rattle.control.specs.Control.{Cell}
-use Rattle.cache.specs.Cache.{owner, dirty, content, shadowOwner, cellContent, withSlot, topSlot, holds, current}
+use Rattle.cache.specs.Cache.{owner, dirty, content, shadowOwner, withSlot, topSlot, holds, current}
 use Rattle.cache.proofs.Laws.{owner-same, content-same, owner-other, dirty-other, content-other, holds-owner, owner-holds, slot-holds, current-cached, current-missing}
 use Rattle.journal.proofs.Again.{put-cells}
 use Rattle.calls.specs.Path.{evicted, nodeCell}
 use Rattle.call_laws.proofs.Fresh.{fresh-length}
 use Rattle.call_laws.proofs.Loads.{Fit}
-use Rattle.history_laws.proofs.Setting.{Setting, Tree, treeNode}
+use Rattle.history_laws.proofs.Setting.{Setting, Tree, treeNode, nodeIn}
 use Rattle.history_laws.proofs.Recovered.{Durable}
 use Rattle.history_laws.proofs.Stores.{with-node, node-same, other-level, node-lines, shadow-kept, fresh-kept, node-durable}
 use Rattle.history_laws.proofs.Stores.{Vacant, shadow-lines, listed-same, listed-other, nodes-kept, shadow-durable}
@@ -37,7 +37,7 @@ module _ (S : Setting) (T : Tree) where
     pub listed : (s : ℕ) → s < slots h → owner c s ≡ shadowOwner h a s
     pub fresh : (s i : ℕ) → s < slots h → owner c s ≡ suc i → content c s ≡ treeNode S T (levelOf s) i
     pub clean : (s i : ℕ) → s < slots h → owner c s ≡ suc i → dirty c s ≡ 0
-        → cellContent a (cellOf h (node (levelOf s) i)) ≡ treeNode S T (levelOf s) i
+        → nodeIn S a (levelOf s) i ≡ treeNode S T (levelOf s) i
 
 module _ {S : Setting} {T : Tree} {a c : List ℕ} (v : Live S T a c) where
   open Setting S using (keys, h, high)
@@ -73,10 +73,10 @@ module _ {S : Setting} {T : Tree} {a c : List ℕ} (v : Live S T a c) where
     record Freed (b : List ℕ) : Type 0 where
       durable : Durable S T b
       shadows : (t : ℕ) → t < slots h → shadowOwner h b t ≡ shadowOwner h a t
-      kept : (k j : ℕ) → k ≤ h → j < nodes h k → cellContent a (cellOf h (node k j)) ≡ treeNode S T k j
-          → cellContent b (cellOf h (node k j)) ≡ treeNode S T k j
-      old : (j : ℕ) → j < nodes h l → owner c (slotOf l i) ≡ suc j → cellContent b (cellOf h (node l j)) ≡ treeNode S T l j
-      lower : (k j : ℕ) → k < l → j < nodes h k → cellContent b (cellOf h (node k j)) ≡ cellContent a (cellOf h (node k j))
+      kept : (k j : ℕ) → k ≤ h → j < nodes h k → nodeIn S a k j ≡ treeNode S T k j
+          → nodeIn S b k j ≡ treeNode S T k j
+      old : (j : ℕ) → j < nodes h l → owner c (slotOf l i) ≡ suc j → nodeIn S b l j ≡ treeNode S T l j
+      lower : (k j : ℕ) → k < l → j < nodes h k → nodeIn S b k j ≡ nodeIn S a k j
       rows : (n : ℕ) → n < lines h → part b (72 * n) 72 ≡ part a (72 * n) 72
 
     -- what a filled slot has
@@ -93,7 +93,7 @@ module _ {S : Setting} {T : Tree} {a c : List ℕ} (v : Live S T a c) where
           durable = v .durable;
           shadows = λ t p. refl;
           kept = λ k j p q r. r;
-          old = λ j p o. subst (λ (k : ℕ). cellContent a (cellOf h (node k j)) ≡ treeNode S T k j) (level-slot l i)
+          old = λ j p o. subst (λ (k : ℕ). nodeIn S a k j ≡ treeNode S T k j) (level-slot l i)
               (v .clean (slotOf l i) j within o e);
           lower = λ k j p q. refl;
           rows = λ n p. refl;
@@ -106,7 +106,7 @@ module _ {S : Setting} {T : Tree} {a c : List ℕ} (v : Live S T a c) where
           shadows = shadow-kept (v .durable) l j (w .level) q;
           kept = fresh-kept (v .durable) l j (w .level) q;
           old = λ k p o. let same : j ≡ k = omega (arith, e, o) in
-              subst (λ (n : ℕ). cellContent (with-node (v .durable) l j (w .level) q) (cellOf h (node l n)) ≡ treeNode S T l n) same
+              subst (λ (n : ℕ). nodeIn S (with-node (v .durable) l j (w .level) q) l n ≡ treeNode S T l n) same
               (node-same (v .durable) l j (w .level) q);
           lower = λ k n p r. other-level (v .durable) l j (w .level) q k n (omega (arith, w .level)) r (λ z. omega arith);
           rows = node-lines (v .durable) l j (w .level) q;
@@ -173,8 +173,8 @@ module _ {S : Setting} {T : Tree} {a c : List ℕ} (v : Live S T a c) where
     pub own-other : (t : ℕ) → (t ≡ slotOf l i → ⊥) → owner next t ≡ owner c t
     own-other = owner-other h c (v .fit .sized) (slotOf l i) within (suc i) 0 (treeNode S T l i) size
 
-    kept-next : (k j : ℕ) → k ≤ h → j < nodes h k → cellContent a (cellOf h (node k j)) ≡ treeNode S T k j
-        → cellContent array-next (cellOf h (node k j)) ≡ treeNode S T k j
+    kept-next : (k j : ℕ) → k ≤ h → j < nodes h k → nodeIn S a k j ≡ treeNode S T k j
+        → nodeIn S array-next k j ≡ treeNode S T k j
     kept-next k j p q e = nodes-kept (freed .durable) vacant k j p q ∙ freed .kept k j p q e
 
     -- data cells stay as they were
@@ -182,7 +182,7 @@ module _ {S : Setting} {T : Tree} {a c : List ℕ} (v : Live S T a c) where
     rows-next n p = shadow-lines (freed .durable) vacant n p ∙ freed .rows n p
 
     -- nodes of lower levels stay as they were
-    pub lower-next : (k j : ℕ) → k < l → j < nodes h k → cellContent array-next (cellOf h (node k j)) ≡ cellContent a (cellOf h (node k j))
+    pub lower-next : (k j : ℕ) → k < l → j < nodes h k → nodeIn S array-next k j ≡ nodeIn S a k j
     lower-next k j p q = nodes-kept (freed .durable) vacant k j (omega (arith, w .level)) q ∙ freed .lower k j p q
 
     listed-next : (t : ℕ) → t < slots h → (t ≡ slotOf l i) ⊎ (t ≡ slotOf l i → ⊥) → owner next t ≡ shadowOwner h array-next t
@@ -208,10 +208,10 @@ module _ {S : Setting} {T : Tree} {a c : List ℕ} (v : Live S T a c) where
         ∙ v .fresh t j p (sym (own-other t z) ∙ o)
 
     clean-next : (t j : ℕ) → t < slots h → owner next t ≡ suc j → dirty next t ≡ 0 → (t ≡ slotOf l i) ⊎ (t ≡ slotOf l i → ⊥)
-        → cellContent array-next (cellOf h (node (levelOf t) j)) ≡ treeNode S T (levelOf t) j
+        → nodeIn S array-next (levelOf t) j ≡ treeNode S T (levelOf t) j
     clean-next t j p o e (inl z) =
-        subst (λ (k : ℕ). cellContent array-next (cellOf h (node k j)) ≡ treeNode S T k j) (sym (its-level t z))
-        (subst (λ (n : ℕ). cellContent array-next (cellOf h (node l n)) ≡ treeNode S T l n) (its-index t j z o)
+        subst (λ (k : ℕ). nodeIn S array-next k j ≡ treeNode S T k j) (sym (its-level t z))
+        (subst (λ (n : ℕ). nodeIn S array-next l n ≡ treeNode S T l n) (its-index t j z o)
         (kept-next l i (w .level) (w .inside) (v .durable .stored l i (w .level) (w .inside) not-listed)))
     clean-next t j p o e (inr z) =
         let o' = sym (own-other t z) ∙ o in

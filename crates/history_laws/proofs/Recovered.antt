@@ -11,15 +11,14 @@ use native.Mathlib.Omega.{arith}
 use borrow.Author.Tests.{le-leb, eq-eqb}
 use lib.ListN.{length, getD, take, drop}
 use Rattle.words.proofs.Order.{eq-or-not}
-use Rattle.memory_map.specs.Map.{pages, lines, nodes, slots, arrayLength, cellOf}
-use Rattle.memory_map.specs.Map.Item.{node}
+use Rattle.memory_map.specs.Map.{pages, lines, nodes, slots, arrayLength}
 use Rattle.memory_map.proofs.Laws.{nodes-small, nodes-below, nodes-bottom, nodes-some}
 use Rattle.slot_map.specs.Slots.{cacheLength, slotOf, levelOf}
 use Rattle.slot_map.proofs.Laws.{slot-within, level-slot, level-low, level-high, level-within, belongs-node}
 use Rattle.counter.specs.Counter.{major, minors, minor, counterBlock, phaseOf, forward, mayForward}
 use Rattle.counter.proofs.Laws.{length-minors, forward-reaches}
 use Rattle.tag.specs.Tag.{nodeTag}
-use Rattle.cache.specs.Cache.{owner, dirty, content, shadowOwner, shadowOwners, cellContent, withSlot, badSlot, emptyCache, from, topSlot, holds, current}
+use Rattle.cache.specs.Cache.{owner, dirty, content, shadowOwner, shadowOwners, withSlot, badSlot, emptyCache, from, topSlot, holds, current}
 use Rattle.cache.proofs.Laws.{Owned, Formed, not-bad, length-with, owner-same, dirty-same, content-same, owner-other, dirty-other, content-other, length-empty, owner-empty, dirty-empty, holds-owner, owner-holds, current-cached, current-missing}
 use Rattle.answer.specs.declared.Answer.the-variants.{Done}
 use Rattle.control.specs.Control.{depth, root}
@@ -29,7 +28,7 @@ use Rattle.calls.specs.Format.{countsFrom, freshNode}
 use Rattle.calls.specs.Path.{childTags}
 use Rattle.call_laws.proofs.Tags.{tags-agree}
 use Rattle.call_laws.proofs.Fresh.{fresh-length}
-use Rattle.history_laws.proofs.Setting.{Setting, Tree, Small, treeNode, treeRoot}
+use Rattle.history_laws.proofs.Setting.{Setting, Tree, Small, treeNode, treeRoot, nodeIn}
 
 -- what an array keeps of a tree
 module _ (S : Setting) (T : Tree) where
@@ -41,11 +40,11 @@ module _ (S : Setting) (T : Tree) where
     pub small : Small T
     pub owners : Owned h (shadowOwner h a)
     pub stored : (l i : ℕ) → l ≤ h → i < nodes h l → (shadowOwner h a (slotOf l i) ≡ suc i → ⊥)
-        → cellContent a (cellOf h (node l i)) ≡ treeNode S T l i
-    pub majors : (p : ℕ) → p < pages h → major (cellContent a (cellOf h (node 0 p))) ≡ 0
-    pub behind : (p j : ℕ) → p < pages h → j < 64 → minor (cellContent a (cellOf h (node 0 p))) j ≤ count (64 * p + j)
+        → nodeIn S a l i ≡ treeNode S T l i
+    pub majors : (p : ℕ) → p < pages h → major (nodeIn S a 0 p) ≡ 0
+    pub behind : (p j : ℕ) → p < pages h → j < 64 → minor (nodeIn S a 0 p) j ≤ count (64 * p + j)
     pub near : (p j : ℕ) → p < pages h → j < 64
-        → count (64 * p + j) ≤ minor (cellContent a (cellOf h (node 0 p))) j + phaseOf (count (64 * p + j))
+        → count (64 * p + j) ≤ minor (nodeIn S a 0 p) j + phaseOf (count (64 * p + j))
     pub phases : (n : ℕ) → n < lines h → phaseByte a n ≡ phaseOf (count n)
 
 -- ---- minors brought forward
@@ -97,7 +96,7 @@ module _ {S : Setting} {T : Tree} {a : List ℕ} (m : Durable S T a) where
   open Tree T using (count)
 
   abbrev block : ℕ → List ℕ
-  block p = cellContent a (cellOf h (node 0 p))
+  block p = nodeIn S a 0 p
 
   forwarded : (p : ℕ) → p < pages h → forwardFrom a (64 * p) (minors (block p)) ≡ some (countsFrom count (64 * p) 64)
   unfolding lines
@@ -257,7 +256,7 @@ module _ {S : Setting} {T : Tree} {a : List ℕ} (m : Durable S T a) where
 
   -- what the block of a page, and the owner of a slot, adds to the sum brought forward
   unfoldable pub pageSum : ℕ → ℕ
-  pageSum p = total (countsFrom count (64 * p) 64) - total (minors (cellContent a (cellOf h (node 0 p))))
+  pageSum p = total (countsFrom count (64 * p) 64) - total (minors (nodeIn S a 0 p))
 
   unfoldable pub added : ℕ → ℕ
   added zero = 0

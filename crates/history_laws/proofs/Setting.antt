@@ -4,6 +4,9 @@ use mathlib.Core.List.{List}
 use Prim.Native.Nat.{ℕ, suc, _≤_, _<_}
 use lib.ListN.{length}
 use Rattle.words.proofs.Digits.{Below}
+use Rattle.memory_map.specs.Map.{cellOf}
+use Rattle.memory_map.specs.Map.Item.{node}
+use Rattle.cache.specs.Cache.{cellContent}
 use Rattle.calls.specs.Format.{freshNode, freshRoot}
 use Rattle.calls.specs.History.{Book, changed}
 
@@ -37,3 +40,7 @@ treeNode S T l i = freshNode (S .keys) (T .count) l i
 
 abbrev pub treeRoot : Setting → Tree → ℕ
 treeRoot S T = freshRoot (S .keys) (T .count) (S .h)
+
+-- a node as the array has it
+abbrev pub nodeIn : Setting → List ℕ → ℕ → ℕ → List ℕ
+nodeIn S a l i = cellContent a (cellOf (S .h) (node l i))

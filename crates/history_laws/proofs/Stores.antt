@@ -24,7 +24,7 @@ use Rattle.counter.specs.Counter.{major, minor, phaseOf}
 use Rattle.cache.specs.Cache.{cellContent, shadowOwner, topSlot}
 use Rattle.calls.specs.Recovery.{phaseByte}
 use Rattle.call_laws.proofs.Fresh.{fresh-length}
-use Rattle.history_laws.proofs.Setting.{Setting, Tree, treeNode}
+use Rattle.history_laws.proofs.Setting.{Setting, Tree, treeNode, nodeIn}
 use Rattle.history_laws.proofs.Tree.{fresh-major, fresh-minor}
 use Rattle.history_laws.proofs.Recovered.{Durable}
 
@@ -177,22 +177,22 @@ module _ {S : Setting} {T : Tree} {a : List ℕ} (m : Durable S T a) where
     w : Put h a (node l i) (nodeBytes S T l i)
     w = node-put S T a l i (m .whole) low inside
 
-    pub node-same : cellContent with-node (cellOf h (node l i)) ≡ treeNode S T l i
+    pub node-same : nodeIn S with-node l i ≡ treeNode S T l i
     unfolding cellContent
     node-same = same-part w 64 (omega arith) ∙ take-at (treeNode S T l i) (replicate 8 0) 64 (fresh-length keys count l i)
 
     -- the cell of a node: this one's is fresh, another's as before
-    node-cases : (P : List ℕ → Type 0) (k j : ℕ) → k ≤ h → j < nodes h k → P (treeNode S T k j) → P (cellContent a (cellOf h (node k j)))
-        → P (cellContent with-node (cellOf h (node k j)))
+    node-cases : (P : List ℕ → Type 0) (k j : ℕ) → k ≤ h → j < nodes h k → P (treeNode S T k j) → P (nodeIn S a k j)
+        → P (nodeIn S with-node k j)
     unfolding first second
     node-cases P k j p q new old = go (eq-or-not k l) (eq-or-not j i)
       where
-        kept : (node k j ≡ node l i → ⊥) → P (cellContent with-node (cellOf h (node k j)))
+        kept : (node k j ≡ node l i → ⊥) → P (nodeIn S with-node k j)
         kept z = subst P (sym (node-apart w k j p q z)) old
 
-        go : (k ≡ l) ⊎ (k ≡ l → ⊥) → (j ≡ i) ⊎ (j ≡ i → ⊥) → P (cellContent with-node (cellOf h (node k j)))
+        go : (k ≡ l) ⊎ (k ≡ l → ⊥) → (j ≡ i) ⊎ (j ≡ i → ⊥) → P (nodeIn S with-node k j)
         go (inl d) (inl e) =
-            subst P (sym (ap₂ (λ (x y : ℕ). cellContent with-node (cellOf h (node x y))) d e ∙ node-same
+            subst P (sym (ap₂ (λ (x y : ℕ). nodeIn S with-node x y) d e ∙ node-same
             ∙ sym (ap₂ (λ (x y : ℕ). treeNode S T x y) d e))) new
         go (inr d) e = kept (λ z. d (ap first z))
         go (inl d) (inr e) = kept (λ z. e (ap second z))
@@ -201,13 +201,13 @@ module _ {S : Setting} {T : Tree} {a : List ℕ} (m : Durable S T a) where
     unfolding kind
     shadow-kept = shadows-apart w (λ (q : _≡_ {A = ℕ} 1 2). omega arith)
 
-    pub fresh-kept : (k j : ℕ) → k ≤ h → j < nodes h k → cellContent a (cellOf h (node k j)) ≡ treeNode S T k j
-        → cellContent with-node (cellOf h (node k j)) ≡ treeNode S T k j
+    pub fresh-kept : (k j : ℕ) → k ≤ h → j < nodes h k → nodeIn S a k j ≡ treeNode S T k j
+        → nodeIn S with-node k j ≡ treeNode S T k j
     fresh-kept k j p q e = node-cases (λ b. b ≡ treeNode S T k j) k j p q refl e
 
     -- nodes of another level stay
     pub other-level : (k j : ℕ) → k ≤ h → j < nodes h k → (k ≡ l → ⊥)
-        → cellContent with-node (cellOf h (node k j)) ≡ cellContent a (cellOf h (node k j))
+        → nodeIn S with-node k j ≡ nodeIn S a k j
     unfolding first
     other-level k j p q z = node-apart w k j p q (λ e. z (ap first e))
 
@@ -239,7 +239,7 @@ module _ {S : Setting} {T : Tree} {a : List ℕ} (m : Durable S T a) where
       where
         stored : (k j : ℕ) → k ≤ h → j < nodes h k → (shadowOwner h with-node (slotOf k j) ≡ suc j → ⊥)
             → (shadowOwner h a (slotOf k j) ≡ suc j) ⊎ (shadowOwner h a (slotOf k j) ≡ suc j → ⊥)
-            → cellContent with-node (cellOf h (node k j)) ≡ treeNode S T k j
+            → nodeIn S with-node k j ≡ treeNode S T k j
         stored k j p q o (inl e) = absurd (o (shadow-kept (slotOf k j) (slot-within h k j p) ∙ e))
         stored k j p q o (inr e) = fresh-kept k j p q (m .stored k j p q e)
 
@@ -250,7 +250,7 @@ module _ {S : Setting} {T : Tree} {a : List ℕ} (m : Durable S T a) where
     pub low : l ≤ h
     pub inside : i < nodes h l
     pub word : suc i < 2 ^ 64
-    pub old : (j : ℕ) → j < nodes h l → shadowOwner h a (slotOf l i) ≡ suc j → cellContent a (cellOf h (node l j)) ≡ treeNode S T l j
+    pub old : (j : ℕ) → j < nodes h l → shadowOwner h a (slotOf l i) ≡ suc j → nodeIn S a l j ≡ treeNode S T l j
     pub topped : shadowOwner h a (topSlot h) ≡ 0 → slotOf l i ≡ topSlot h
 
   module _ {l i : ℕ} (v : Vacant l i) where
@@ -282,7 +282,7 @@ module _ {S : Setting} {T : Tree} {a : List ℕ} (m : Durable S T a) where
     unfolding first
     listed-other t p e = shadow-apart u t p (λ z. e (ap first z))
 
-    pub nodes-kept : (k j : ℕ) → k ≤ h → j < nodes h k → cellContent with-shadow (cellOf h (node k j)) ≡ cellContent a (cellOf h (node k j))
+    pub nodes-kept : (k j : ℕ) → k ≤ h → j < nodes h k → nodeIn S with-shadow k j ≡ nodeIn S a k j
     unfolding kind
     nodes-kept = nodes-apart u (λ (z : _≡_ {A = ℕ} 2 1). omega arith)
 
@@ -299,15 +299,15 @@ module _ {S : Setting} {T : Tree} {a : List ℕ} (m : Durable S T a) where
 
     stored : (k j : ℕ) → k ≤ h → j < nodes h k → (shadowOwner h with-shadow (slotOf k j) ≡ suc j → ⊥)
         → (shadowOwner h a (slotOf k j) ≡ suc j) ⊎ (shadowOwner h a (slotOf k j) ≡ suc j → ⊥)
-        → (slotOf k j ≡ slotOf l i) ⊎ (slotOf k j ≡ slotOf l i → ⊥) → cellContent a (cellOf h (node k j)) ≡ treeNode S T k j
+        → (slotOf k j ≡ slotOf l i) ⊎ (slotOf k j ≡ slotOf l i → ⊥) → nodeIn S a k j ≡ treeNode S T k j
     stored k j p q o (inr e) z = m .stored k j p q e
     stored k j p q o (inl e) (inr z) = absurd (o (listed-other (slotOf k j) (slot-within h k j p) z ∙ e))
     stored k j p q o (inl e) (inl z) =
         let level : k ≡ l = sym (level-slot k j) ∙ ap levelOf z ∙ level-slot l i in
-        subst (λ (n : ℕ). cellContent a (cellOf h (node n j)) ≡ treeNode S T n j) (sym level)
+        subst (λ (n : ℕ). nodeIn S a n j ≡ treeNode S T n j) (sym level)
         (v .old j (subst (λ (n : ℕ). j < nodes h n) level q) (ap (shadowOwner h a) (sym z) ∙ e))
 
-    page-there : (p : ℕ) → p < pages h → cellContent with-shadow (cellOf h (node 0 p)) ≡ cellContent a (cellOf h (node 0 p))
+    page-there : (p : ℕ) → p < pages h → nodeIn S with-shadow 0 p ≡ nodeIn S a 0 p
     page-there p q = nodes-kept 0 p zero-le (omega (arith, nodes-bottom h))
 
     pub shadow-durable : Durable S T with-shadow

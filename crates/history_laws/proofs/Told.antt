@@ -12,17 +12,16 @@ use borrow.Author.Tests.{eq-eqb, ne-eqb}
 use lib.Dec.{eqb, lit<}
 use lib.Seq.{ext-getD}
 use Rattle.words.proofs.Order.{eq-or-not}
-use Rattle.memory_map.specs.Map.{pageOf, placeOf, pages, lines, nodes, slots, cellOf}
-use Rattle.memory_map.specs.Map.Item.{node}
+use Rattle.memory_map.specs.Map.{pageOf, placeOf, pages, lines, nodes, slots}
 use Rattle.memory_map.proofs.Laws.{nodes-bottom, page-inside}
 use Rattle.slot_map.specs.Slots.{slotOf, levelOf}
 use Rattle.slot_map.proofs.Laws.{level-low, belongs-node}
 use Rattle.counter.specs.Counter.{minors, minor}
 use Rattle.counter.proofs.Laws.{length-minors}
-use Rattle.cache.specs.Cache.{cellContent, shadowOwner}
+use Rattle.cache.specs.Cache.{shadowOwner}
 use Rattle.calls.specs.Recovery.{total}
 use Rattle.calls.specs.Format.{countsFrom}
-use Rattle.history_laws.proofs.Setting.{Setting, Tree}
+use Rattle.history_laws.proofs.Setting.{Setting, Tree, nodeIn}
 use Rattle.history_laws.proofs.Tree.{length-counts, counts-agree, counts-at, fresh-minors}
 use Rattle.history_laws.proofs.Recovered.{Durable, pageSum, added}
 
@@ -73,7 +72,7 @@ module _ {S : Setting} {T : Tree} {a : List ℕ} (m : Durable S T a) where
   open Tree T using (count)
 
   abbrev block : ℕ → List ℕ
-  block p = cellContent a (cellOf h (node 0 p))
+  block p = nodeIn S a 0 p
 
   -- a line's minor in the array, and what its count is above it
   abbrev pub stored : ℕ → ℕ

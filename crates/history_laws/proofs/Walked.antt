@@ -14,18 +14,17 @@ use Rattle.memory_map.proofs.Laws.{path-up, path-top, path-within}
 use Rattle.words.specs.Bytes.{part}
 use Rattle.words.proofs.Digits.{Below}
 use Rattle.words.proofs.Order.{eq-or-not}
-use Rattle.memory_map.specs.Map.{pages, lines, nodes, arrayLength, cellOf, onPath}
-use Rattle.memory_map.specs.Map.Item.{node}
+use Rattle.memory_map.specs.Map.{pages, lines, nodes, arrayLength, onPath}
 use Rattle.slot_map.specs.Slots.{slotOf, levelOf}
 use Rattle.slot_map.proofs.Laws.{slot-within, level-slot}
 use Rattle.tag.specs.Tag.{nodeTag}
 use Rattle.control.specs.Control.{Cell}
-use Rattle.cache.specs.Cache.{owner, content, cellContent, withSlot, topSlot, holds}
+use Rattle.cache.specs.Cache.{owner, content, withSlot, topSlot, holds}
 use Rattle.cache.proofs.Laws.{holds-owner}
 use Rattle.journal.proofs.Again.{put-cells, put-cells-append}
 use Rattle.calls.specs.Path.{childTag, evicted, shadowCell, Loaded, loaded, differs, loadNode, loadLevels, loadPath}
 use Rattle.call_laws.proofs.Loads.{Fit, slot-fit}
-use Rattle.history_laws.proofs.Setting.{Setting, Tree, treeNode, treeRoot}
+use Rattle.history_laws.proofs.Setting.{Setting, Tree, treeNode, treeRoot, nodeIn}
 use Rattle.history_laws.proofs.Tree.{child-fresh}
 use Rattle.history_laws.proofs.Live.{Live, Missing, not-listed, own-same, own-other, array-next, live-next, lower-next, rows-next}
 
@@ -48,14 +47,14 @@ module _ {S : Setting} (T : Tree) {base : List ℕ} (ok : Array S base) where
     held : owner cache (slotOf l i) ≡ suc i
     others : (k j : ℕ) → (k ≡ l → ⊥) → owner cache (slotOf k j) ≡ owner c (slotOf k j)
     lower : (k j : ℕ) → k < l → j < nodes h k
-        → cellContent (put-cells a cells) (cellOf h (node k j)) ≡ cellContent a (cellOf h (node k j))
+        → nodeIn S (put-cells a cells) k j ≡ nodeIn S a k j
     rows : (n : ℕ) → n < lines h → part (put-cells a cells) (72 * n) 72 ≡ part a (72 * n) 72
 
   module _ {a c : List ℕ} (v : Live S T a c) (l i : ℕ) (lh : l ≤ h) (inside : i < nodes h l) (top : owner c (topSlot h) ≡ 0 → l ≡ h)
-      (there : cellContent base (cellOf h (node l i)) ≡ cellContent a (cellOf h (node l i)))
+      (there : nodeIn S base l i ≡ nodeIn S a l i)
       (t : ℕ) (tag : t ≡ nodeTag keys (treeNode S T l i) l i) where
     abbrev b : List ℕ
-    b = cellContent base (cellOf h (node l i))
+    b = nodeIn S base l i
 
     abbrev batch : List Cell
     batch = evicted h c l (slotOf l i) ++ (shadowCell h (slotOf l i) (suc i) ∷ [])
@@ -113,7 +112,7 @@ module _ {S : Setting} (T : Tree) {base : List ℕ} (ok : Array S base) where
             live = subst (λ (n : List ℕ). Live S T n with-it) (sym stored) (live-next v missing fits);
             held = own-same v missing;
             others = λ k j z. own-other v missing (slotOf k j) (λ e. z (sym (level-slot k j) ∙ ap levelOf e ∙ level-slot l i));
-            lower = λ k j p q. ap (λ (n : List ℕ). cellContent n (cellOf h (node k j))) stored ∙ lower-next v missing k j p q;
+            lower = λ k j p q. ap (λ (n : List ℕ). nodeIn S n k j) stored ∙ lower-next v missing k j p q;
             rows = λ n p. ap (λ (a : List ℕ). part a (72 * n) 72) stored ∙ rows-next v missing n p;
           }
 
@@ -136,7 +135,7 @@ module _ {S : Setting} (T : Tree) {base : List ℕ} (ok : Array S base) where
       live : Live S T (put-cells base x) c
       -- the array lower down is as it was
       lower : (k j : ℕ) → k < n → j < nodes h k
-          → cellContent base (cellOf h (node k j)) ≡ cellContent (put-cells base x) (cellOf h (node k j))
+          → nodeIn S base k j ≡ nodeIn S (put-cells base x) k j
       top : owner c (topSlot h) ≡ 0 → n ≡ suc h
       -- the tag that the highest of them must have
       tag : (l : ℕ) → n ≡ suc l → t ≡ nodeTag keys (treeNode S T l (onPath p l)) l (onPath p l)
@@ -198,7 +197,7 @@ module _ {S : Setting} (T : Tree) {base : List ℕ} (ok : Array S base) where
             few = omega (arith, w .few);
             live = subst (λ (n : List ℕ). Live S T n (step .cache)) (sym appended) (step .live);
             lower = λ k j r s. w .lower k j (omega arith) s ∙ sym (step .lower k j r s)
-                ∙ sym (ap (λ (n : List ℕ). cellContent n (cellOf h (node k j))) appended);
+                ∙ sym (ap (λ (n : List ℕ). nodeIn S n k j) appended);
             top = top-step;
             tag = tag-step;
           }

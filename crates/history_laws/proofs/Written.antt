@@ -35,7 +35,7 @@ use Rattle.calls.specs.Recovery.{phaseByte}
 use Rattle.calls.specs.Path.{nodeCell, renewPath, renewedRoot}
 use Rattle.call_laws.proofs.Fresh.{fresh-length}
 use Rattle.call_laws.proofs.Loads.{Fit}
-use Rattle.history_laws.proofs.Setting.{Setting, Tree, Small, raised, treeNode, treeRoot}
+use Rattle.history_laws.proofs.Setting.{Setting, Tree, Small, raised, treeNode, treeRoot, nodeIn}
 use Rattle.history_laws.proofs.Tree.{raised-same, raised-other, fresh-agree, fresh-major, fresh-minor, fresh-with, Path, renewed-fresh}
 use Rattle.history_laws.proofs.Recovered.{Durable}
 use Rattle.history_laws.proofs.Stores.{kind, first, second, in-line, line-cell, Put, length-after, same-part, nodeBytes, node-put}
@@ -146,10 +146,10 @@ module _ {S : Setting} {T : Tree} {a c : List ℕ} {n : ℕ} (w : Reached S T a 
     whole : length b ≡ arrayLength h
     shadows : (s : ℕ) → s < slots h → shadowOwner h b s ≡ shadowOwner h a s
     others : (k i : ℕ) → k ≤ h → i < nodes h k → (node k i ≡ node 0 p → ⊥)
-        → cellContent b (cellOf h (node k i)) ≡ cellContent a (cellOf h (node k i))
+        → nodeIn S b k i ≡ nodeIn S a k i
     rows : (x : ℕ) → x < lines h → part b (72 * x) 72 ≡ part a (72 * x) 72
-    now : stop ≡ true → cellContent b (cellOf h (node 0 p)) ≡ treeNode S U 0 p
-    stay : stop ≡ false → cellContent b (cellOf h (node 0 p)) ≡ cellContent a (cellOf h (node 0 p))
+    now : stop ≡ true → nodeIn S b 0 p ≡ treeNode S U 0 p
+    stay : stop ≡ false → nodeIn S b 0 p ≡ nodeIn S a 0 p
 
   abbrev blockCells : Bool → List Cell
   blockCells stop = cond stop (nodeCell h 0 p (treeNode S U 0 p) ∷ []) []
@@ -215,12 +215,12 @@ module _ {S : Setting} {T : Tree} {a c : List ℕ} {n : ℕ} (w : Reached S T a 
     unfolding kind
     shadows s q = shadows-apart its-cell (λ (z : _≡_ {A = ℕ} 0 2). omega arith) s q ∙ b .shadows s q
 
-    kept : (k i : ℕ) → k ≤ h → i < nodes h k → cellContent written (cellOf h (node k i)) ≡ cellContent before (cellOf h (node k i))
+    kept : (k i : ℕ) → k ≤ h → i < nodes h k → nodeIn S written k i ≡ nodeIn S before k i
     unfolding kind
     kept = nodes-apart its-cell (λ (z : _≡_ {A = ℕ} 0 1). omega arith)
 
     others : (k i : ℕ) → k ≤ h → i < nodes h k → (node k i ≡ node 0 p → ⊥)
-        → cellContent written (cellOf h (node k i)) ≡ cellContent a (cellOf h (node k i))
+        → nodeIn S written k i ≡ nodeIn S a k i
     others k i q r e = kept k i q r ∙ b .others k i q r e
 
     pub row-other : (x : ℕ) → x < lines h → (x ≡ n → ⊥) → part written (72 * x) 72 ≡ part a (72 * x) 72
@@ -233,43 +233,43 @@ module _ {S : Setting} {T : Tree} {a c : List ℕ} {n : ℕ} (w : Reached S T a 
         (same-part its-cell 72 (le-refl 72) ∙ take-all 72 bytes (omega (arith, size)))
 
     -- a page's block: the new one where it is stored, else the array's
-    page-cases : (P : List ℕ → Type 0) (q : ℕ) → q < pages h → (q ≡ p → P (treeNode S U 0 q)) → ((q ≡ p → stop ≡ false) → P (cellContent a (cellOf h (node 0 q))))
-        → P (cellContent written (cellOf h (node 0 q)))
+    page-cases : (P : List ℕ → Type 0) (q : ℕ) → q < pages h → (q ≡ p → P (treeNode S U 0 q)) → ((q ≡ p → stop ≡ false) → P (nodeIn S a 0 q))
+        → P (nodeIn S written 0 q)
     unfolding second
     page-cases P q r new old = go (eq-or-not q p) stop refl
       where
-        at : cellContent written (cellOf h (node 0 q)) ≡ cellContent before (cellOf h (node 0 q))
+        at : nodeIn S written 0 q ≡ nodeIn S before 0 q
         at = kept 0 q zero-le (page-in q r)
 
-        go : (q ≡ p) ⊎ (q ≡ p → ⊥) → (s : Bool) → stop ≡ s → P (cellContent written (cellOf h (node 0 q)))
+        go : (q ≡ p) ⊎ (q ≡ p → ⊥) → (s : Bool) → stop ≡ s → P (nodeIn S written 0 q)
         go (inr e) s z = subst P (sym (others 0 q zero-le (page-in q r) (λ w. e (ap second w)))) (old (λ w. absurd (e w)))
         go (inl e) true z =
-            subst P (sym (at ∙ subst (λ (k : ℕ). cellContent before (cellOf h (node 0 k)) ≡ treeNode S U 0 k) (sym e) (b .now z))) (new e)
+            subst P (sym (at ∙ subst (λ (k : ℕ). nodeIn S before 0 k ≡ treeNode S U 0 k) (sym e) (b .now z))) (new e)
         go (inl e) false z =
-            subst P (sym (at ∙ subst (λ (k : ℕ). cellContent before (cellOf h (node 0 k)) ≡ cellContent a (cellOf h (node 0 k))) (sym e) (b .stay z))) (old (λ w. z))
+            subst P (sym (at ∙ subst (λ (k : ℕ). nodeIn S before 0 k ≡ nodeIn S a 0 k) (sym e) (b .stay z))) (old (λ w. z))
 
     g-minor : (q j : ℕ) → j < 64 → minor (treeNode S U 0 q) j ≡ U .count (64 * q + j)
     g-minor q j r = fresh-minor S U-small q j r
 
-    behind : (q j : ℕ) → q < pages h → j < 64 → minor (cellContent written (cellOf h (node 0 q))) j ≤ U .count (64 * q + j)
+    behind : (q j : ℕ) → q < pages h → j < 64 → minor (nodeIn S written 0 q) j ≤ U .count (64 * q + j)
     behind q j r s = page-cases (λ x. minor x j ≤ U .count (64 * q + j)) q r (λ e. omega (arith, g-minor q j s)) (λ e. go (eq-or-not (64 * q + j) n))
       where
-        go : (64 * q + j ≡ n) ⊎ (64 * q + j ≡ n → ⊥) → minor (cellContent a (cellOf h (node 0 q))) j ≤ U .count (64 * q + j)
+        go : (64 * q + j ≡ n) ⊎ (64 * q + j ≡ n → ⊥) → minor (nodeIn S a 0 q) j ≤ U .count (64 * q + j)
         go (inl z) = omega (arith, v .durable .behind q j r s, ap count z, ap (U .count) z ∙ raised-same T n)
         go (inr z) = omega (arith, v .durable .behind q j r s, other (64 * q + j) z)
 
-    near : (q j : ℕ) → q < pages h → j < 64 → U .count (64 * q + j) ≤ minor (cellContent written (cellOf h (node 0 q))) j + phaseOf (U .count (64 * q + j))
+    near : (q j : ℕ) → q < pages h → j < 64 → U .count (64 * q + j) ≤ minor (nodeIn S written 0 q) j + phaseOf (U .count (64 * q + j))
     near q j r s =
         page-cases (λ x. U .count (64 * q + j) ≤ minor x j + phaseOf (U .count (64 * q + j))) q r (λ e. omega (arith, g-minor q j s)) (λ e. go e (eq-or-not (64 * q + j) n))
       where
-        go : (q ≡ p → stop ≡ false) → (64 * q + j ≡ n) ⊎ (64 * q + j ≡ n → ⊥) → U .count (64 * q + j) ≤ minor (cellContent a (cellOf h (node 0 q))) j + phaseOf (U .count (64 * q + j))
-        go e (inr z) = subst (λ (x : ℕ). x ≤ minor (cellContent a (cellOf h (node 0 q))) j + phaseOf x) (other (64 * q + j) z) (v .durable .near q j r s)
+        go : (q ≡ p → stop ≡ false) → (64 * q + j ≡ n) ⊎ (64 * q + j ≡ n → ⊥) → U .count (64 * q + j) ≤ minor (nodeIn S a 0 q) j + phaseOf (U .count (64 * q + j))
+        go e (inr z) = subst (λ (x : ℕ). x ≤ minor (nodeIn S a 0 q) j + phaseOf x) (other (64 * q + j) z) (v .durable .near q j r s)
         go e (inl z) =
             let there : q ≡ p = omega arith in
             let part-way : phaseOf (suc (count n)) ≡ 0 → ⊥ = λ w. false≢true (sym (sym (t .when) ∙ e there) ∙ eq-eqb (phaseOf (suc (count n))) 0 w) in
-            let old : count n ≤ minor (cellContent a (cellOf h (node 0 q))) j + phaseOf (count n) =
-            subst (λ (x : ℕ). count x ≤ minor (cellContent a (cellOf h (node 0 q))) j + phaseOf (count x)) z (v .durable .near q j r s) in
-            subst (λ (x : ℕ). x ≤ minor (cellContent a (cellOf h (node 0 q))) j + phaseOf x) (sym (ap (U .count) z ∙ raised-same T n)) (omega (arith, part-way, old))
+            let old : count n ≤ minor (nodeIn S a 0 q) j + phaseOf (count n) =
+            subst (λ (x : ℕ). count x ≤ minor (nodeIn S a 0 q) j + phaseOf (count x)) z (v .durable .near q j r s) in
+            subst (λ (x : ℕ). x ≤ minor (nodeIn S a 0 q) j + phaseOf x) (sym (ap (U .count) z ∙ raised-same T n)) (omega (arith, part-way, old))
 
     phases : (x : ℕ) → x < lines h → phaseByte written x ≡ phaseOf (U .count x)
     phases x q = phase-in written x ∙ go (eq-or-not x n)
@@ -376,12 +376,12 @@ module _ {S : Setting} {T : Tree} {a c : List ℕ} {n : ℕ} (w : Reached S T a 
         away-slot s q e .0 ∙ v .fresh s i q o' ∙ off-path (levelOf s) i (index-off s i q o' e)
 
     path-clean : (k i : ℕ) → k ≤ h → owner c (slotOf k (onPath p k)) ≡ suc i → dirty cache-written (slotOf k (onPath p k)) ≡ 0
-        → cellContent written (cellOf h (node k i)) ≡ treeNode S U k i
+        → nodeIn S written k i ≡ treeNode S U k i
     unfolding flagAt
     path-clean (suc k) i q o z = absurd (omega (arith, u .flags (suc k) (omega arith), z))
     path-clean zero i q o z =
         let same : p ≡ i = sym (path-bottom p) ∙ omega (arith, held 0 zero-le, o) in
-        subst (λ (j : ℕ). cellContent written (cellOf h (node 0 j)) ≡ treeNode S U 0 j) same
+        subst (λ (j : ℕ). nodeIn S written 0 j ≡ treeNode S U 0 j) same
         (kept 0 p zero-le (page-in p page) ∙ b .now (stored-flag stop (sym (u .flags 0 (omega arith)) ∙ z)))
       where
         stored-flag : (s : Bool) → _≡_ {A = ℕ} (cond s 0 1) 0 → s ≡ true
@@ -390,10 +390,10 @@ module _ {S : Setting} {T : Tree} {a c : List ℕ} {n : ℕ} (w : Reached S T a 
 
     clean-written : (s i : ℕ) → s < slots h → owner cache-written s ≡ suc i → dirty cache-written s ≡ 0
         → (s ≡ spot s) ⊎ (s ≡ spot s → ⊥)
-        → cellContent written (cellOf h (node (levelOf s) i)) ≡ treeNode S U (levelOf s) i
+        → nodeIn S written (levelOf s) i ≡ treeNode S U (levelOf s) i
     unfolding first second
     clean-written s i q o z (inl e) =
-        on-path s q e (λ t k. owner c t ≡ suc i → dirty cache-written t ≡ 0 → cellContent written (cellOf h (node k i)) ≡ treeNode S U k i)
+        on-path s q e (λ t k. owner c t ≡ suc i → dirty cache-written t ≡ 0 → nodeIn S written k i ≡ treeNode S U k i)
         (λ k r x y. path-clean k i r x y) (sym (u .own s q) ∙ o) z
     clean-written s i q o z (inr e) =
         let o' = sym (u .own s q) ∙ o in
