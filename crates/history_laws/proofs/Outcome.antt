@@ -25,12 +25,15 @@ pub no-elements : {A : Type 0} (xs : List A) → length xs ≤ 0 → xs ≡ []
 no-elements [] p = refl
 no-elements (x ∷ xs) p = absurd (omega arith)
 
+-- the module with the stores that an allowance lets be made
+abbrev pub madeStores : ℕ → Module → List Store → Module
+madeStores allowance m xs = withMedia (storeAll (mediaOf m) (made allowance xs)) (m .cache)
+
 -- a call that is cut among its stores, and one that makes them all
 abbrev pub cutAmong : ℕ → Module → List Store → Called
-cutAmong allowance m xs =
-    record { answer = Cut (length (made allowance xs)); after = withMedia (storeAll (mediaOf m) (made allowance xs)) (m .cache) }
+cutAmong allowance m xs = record { answer = Cut (length (made allowance xs)); after = madeStores allowance m xs }
 
-abbrev allStored : ℕ → Module → List Store → Answer → List ℕ → Called
+abbrev pub allStored : ℕ → Module → List Store → Answer → List ℕ → Called
 allStored allowance m xs answer c = record { answer = answer; after = withMedia (storeAll (mediaOf m) (made allowance xs)) c }
 
 -- the two ways in which stores end
@@ -69,7 +72,7 @@ module _ {S : Setting} {b t : Book} {m : Module} {x : List Cell} {r : ℕ} (w : 
       go (inl q) =
           let place : length x + suc (allowance - length x - 1) ≡ allowance = omega arith in
           kept allowance q (ap Cut (cut-made allowance xs p))
-          (subst (λ (n : ℕ). Holds S t (withMedia (storeAll (mediaOf m) (made n xs)) (m .cache))) place
+          (subst (λ (n : ℕ). Holds S t (madeStores n m xs)) place
           (holds-after w (allowance - length x - 1)))
 
   all : length xs ≤ allowance → Ended (allStored allowance m xs answer c)

@@ -1,45 +1,30 @@
 -- Recovery, wherever a module stands in a history: under the same keys it is never refused; cut, it leaves what the next one needs; done, the
 -- module is ready. Assumes nothing.
 use mathlib.Core.Path.{_≡_, refl, sym, ap, _∙_, subst}
-use mathlib.Core.Bool.{Bool, true, false, not, cond}
-use mathlib.Core.List.{List, [], _∷_}
+use mathlib.Core.Bool.{Bool, true, false, cond}
+use mathlib.Core.List.{List, []}
 use Prim.Native.Nat.{_-_, ℕ, _≤_}
 use native.Mathlib.Omega.{arith}
-use borrow.Author.Tests.{eq-eqb, ltb-false}
-use lib.Dec.{eqb}
+use borrow.Author.Tests.{ltb-false}
 use lib.ListN.{length}
 use Rattle.words.proofs.Digits.{Below}
-use Rattle.memory_map.specs.Map.{lines, arrayLength}
-use Rattle.slot_map.specs.Slots.{cacheLength}
+use Rattle.memory_map.specs.Map.{lines}
 use Rattle.answer.specs.declared.Answer.the-variants.{Done, Cut}
-use Rattle.control.specs.Control.{controlLength, depth}
 use Rattle.journal.specs.Journal.{Store, Media, storeAll, pendingStores, made, isCut}
 use Rattle.journal.proofs.Laws.{made-all}
-use Rattle.calls.specs.Call.{Module, Called, mediaOf, withMedia, judged}
+use Rattle.calls.specs.Call.{Module, Called, mediaOf, withMedia}
 use Rattle.calls.specs.Recovery.{total, recoveryRefusal, recoverMedia, recoverJudged, recover}
 use Rattle.calls.specs.Format.{countsFrom}
 use Rattle.calls.specs.History.{Book, storedMinor}
+use Rattle.call_laws.proofs.Judged.{end}
 use Rattle.call_laws.proofs.Rebuilt.{recover-kept}
 use Rattle.history_laws.proofs.Setting.{Setting, Tree, treeOf}
 use Rattle.history_laws.proofs.Recovered.{Durable, cacheAfter, all-slots, formed-after, blocks, recovered}
 use Rattle.history_laws.proofs.Told.{told-is}
 use Rattle.history_laws.proofs.Live.{Live}
-use Rattle.history_laws.proofs.State.{Holds, Ready, settled-holds, all-bytes}
+use Rattle.history_laws.proofs.State.{Holds, Ready, settled-holds, opens, all-bytes}
 use Rattle.history_laws.proofs.Pending.{holds-cut}
-use Rattle.history_laws.proofs.Outcome.{cutAmong}
-
--- ---- nothing refuses it before the stores
-
-pub passes : (t : Bool) (n : ℕ) (xs : List (Bool × ℕ)) → t ≡ false → judged xs ≡ 0 → judged ((t, n) ∷ xs) ≡ 0
-unfolding judged
-passes t n xs e r = ap (λ (b : Bool). cond b n (judged xs)) e ∙ r
-
-pub none-left : judged [] ≡ 0
-unfolding judged
-none-left = refl
-
-pub alike : (a b : ℕ) → a ≡ b → not (eqb a b) ≡ false
-alike a b e = ap not (eq-eqb a b e)
+use Rattle.history_laws.proofs.Outcome.{madeStores, cutAmong}
 
 -- ---- the two ways in which it ends
 
@@ -64,23 +49,18 @@ rebuilt-live m plain =
     }
 
 module _ {S : Setting} {b : Book} {m : Module} (held : Holds S b m) (allowance : ℕ) where
-  open Setting S using (keys, k48, h)
+  open Setting S using (keys)
 
   no-refusal : recoveryRefusal keys m ≡ 0
   unfolding recoveryRefusal
-  no-refusal =
-      passes _ 2 _ (alike (length keys) 48 k48)
-      (passes _ 3 _ (alike (length (m .control)) controlLength (held .formed .control-length))
-      (passes _ 21 _ (ap not (held .right))
-      (passes _ 4 _ (alike (length (m .array)) (arrayLength (depth (m .control))) (held .formed .array-length ∙ ap arrayLength (sym (held .deep))))
-      (passes _ 5 _ (alike (length (m .cache)) (cacheLength (depth (m .control))) (held .sized ∙ ap cacheLength (sym (held .deep)))) none-left))))
+  no-refusal = sym (opens held [] end)
 
   abbrev xs : List Store
   xs = pendingStores (m .control)
 
   -- whether it is cut among the pending stores
   abbrev stored : Bool → Called
-  stored x = cond x (cutAmong allowance m xs) (recoverMedia keys (length xs) (withMedia (storeAll (mediaOf m) (made allowance xs)) (m .cache)))
+  stored x = cond x (cutAmong allowance m xs) (recoverMedia keys (length xs) (madeStores allowance m xs))
 
   opened : recover keys allowance m ≡ stored (isCut allowance xs)
   unfolding recoverJudged

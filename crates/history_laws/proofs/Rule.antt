@@ -8,62 +8,51 @@ use Prim.Native.Nat.{ℕ, zero, suc, _+_, _-_, _*_, _≤_, _<_, zero-le}
 use native.Mathlib.Omega.{arith}
 use borrow.Author.Tests.{lt-leb}
 use lib.Dec.{leb, ltb}
-use lib.ListN.{length, replicate}
-use Rattle.memory_map.specs.Map.{pageOf, placeOf, lines, arrayLength}
+use lib.ListN.{length}
+use Rattle.memory_map.specs.Map.{pageOf, placeOf, lines}
 use Rattle.memory_map.proofs.Laws.{nodes-bottom, page-inside}
-use Rattle.slot_map.specs.Slots.{cacheLength}
 use Rattle.counter.specs.Counter.{minor, phaseOf}
-use Rattle.answer.specs.declared.Answer.the-variants.{Done, Blank, Cut}
+use Rattle.answer.specs.declared.Answer.{Answer}
+use Rattle.answer.specs.declared.Answer.the-variants.{Done, Cut}
 use Rattle.answer.specs.Answer.{codeOf, storesOf, firstOf}
-use Rattle.control.specs.Control.{controlLength, depth}
 use Rattle.cache.specs.Cache.{formed}
 use Rattle.cache.proofs.Laws.{facts-formed}
-use Rattle.journal.specs.Journal.{Store, storeAll, made, isCut}
-use Rattle.calls.specs.Call.{Module, Called, mediaOf, withMedia, storing, accessRefusal, refuse}
+use Rattle.journal.specs.Journal.{Store, isCut}
+use Rattle.calls.specs.Call.{Module, Called, mediaOf, storing, accessRefusal, refuse}
 use Rattle.calls.specs.Read.{Reading, answered, read}
 use Rattle.calls.specs.Recovery.{recover, total}
 use Rattle.calls.specs.Format.{formatRefusal, formatted, format, countsFrom}
 use Rattle.calls.specs.History.{recovers, Book, emptyBook, Allowed, moduleAfter, bookOf, counter, storedMinor, NotCut, Gives, Restored, NotRefused, HistoryRule}
-use Rattle.call_laws.proofs.Judged.{format-accepted}
+use Rattle.call_laws.proofs.Judged.{on, end, unlike-false, format-accepted}
 use Rattle.history_laws.proofs.Setting.{Setting}
 use Rattle.history_laws.proofs.Tree.{counts-agree, fresh-minor}
 use Rattle.history_laws.proofs.Live.{live-current}
-use Rattle.history_laws.proofs.State.{Settled, Holds, Ready, settled-now}
+use Rattle.history_laws.proofs.State.{Settled, Holds, Ready, settled-now, opens}
 use Rattle.history_laws.proofs.First.{first-ready}
+use Rattle.history_laws.proofs.Outcome.{cutAmong, allStored}
 use Rattle.history_laws.proofs.Reading.{Access, walk, stores, reads-blank, reads-text}
-use Rattle.history_laws.proofs.Recovery.{passes, alike, none-left, Ends, cut, rebuilt, ends}
+use Rattle.history_laws.proofs.Recovery.{Ends, cut, rebuilt, ends}
 use Rattle.history_laws.proofs.Refused.{done-not, cut-not}
 use Rattle.history_laws.proofs.Events.{led}
 
 -- ---- what a read shows
 
-shown-blank : (x : Bool) (n k : ℕ) (y z : Module) (out : List ℕ) → NotCut ((cond {A = Called} x (record { answer = Cut n; after = y }) (record { answer = Blank k; after = z })) .answer)
-    → Gives none (record { called = cond x (record { answer = Cut n; after = y }) (record { answer = Blank k; after = z }); output = cond x out (replicate 64 0) })
-unfolding NotCut Gives storesOf
-shown-blank true n k y z out nay = absurd (nay n refl)
-shown-blank false n k y z out nay = (refl, refl)
+-- one that is not cut gives what it answers and puts out with stores enough
+gives : (o : Option (List ℕ)) (allowance : ℕ) (m : Module) (xs : List Store) (answer : Answer) (c t out : List ℕ)
+    → Gives o (record { called = allStored allowance m xs answer c; output = t })
+    → NotCut (answered allowance m xs answer c t out .called .answer) → Gives o (answered allowance m xs answer c t out)
+unfolding answered storing NotCut
+gives o allowance m xs answer c t out ok = go (isCut allowance xs)
+  where
+    called : Bool → Called
+    called x = cond x (cutAmong allowance m xs) (allStored allowance m xs answer c)
 
-shown-text : (x : Bool) (n k : ℕ) (y z : Module) (t out : List ℕ) → NotCut ((cond {A = Called} x (record { answer = Cut n; after = y }) (record { answer = Done k 0; after = z })) .answer)
-    → Gives (some t) (record { called = cond x (record { answer = Cut n; after = y }) (record { answer = Done k 0; after = z }); output = cond x out t })
-unfolding NotCut Gives storesOf
-shown-text true n k y z t out nay = absurd (nay n refl)
-shown-text false n k y z t out nay = (refl, refl)
-
-module _ (allowance : ℕ) (m : Module) (xs : List Store) (c out : List ℕ) where
-  gives-blank : NotCut ((answered allowance m xs (Blank (length xs)) c (replicate 64 0) out) .called .answer) → Gives none (answered allowance m xs (Blank (length xs)) c (replicate 64 0) out)
-  unfolding answered storing
-  gives-blank =
-      shown-blank (isCut allowance xs) (length (made allowance xs)) (length xs) (withMedia (storeAll (mediaOf m) (made allowance xs)) (m .cache))
-      (withMedia (storeAll (mediaOf m) (made allowance xs)) c) out
-
-  gives-text : (t : List ℕ) → NotCut ((answered allowance m xs (Done (length xs) 0) c t out) .called .answer) → Gives (some t) (answered allowance m xs (Done (length xs) 0) c t out)
-  unfolding answered storing
-  gives-text t =
-      shown-text (isCut allowance xs) (length (made allowance xs)) (length xs) (withMedia (storeAll (mediaOf m) (made allowance xs)) (m .cache))
-      (withMedia (storeAll (mediaOf m) (made allowance xs)) c) t out
+    go : (x : Bool) → NotCut (called x .answer) → Gives o (record { called = called x; output = cond x out t })
+    go true nay = absurd (nay _ refl)
+    go false nay = ok
 
 module _ {S : Setting} {b : Book} {m : Module} (r : Ready S b m) where
-  open Setting S using (keys, k48, h)
+  open Setting S using (keys, h)
 
   abbrev v : Holds S b m
   v = r .holds
@@ -81,16 +70,10 @@ module _ {S : Setting} {b : Book} {m : Module} (r : Ready S b m) where
   opened : (n : ℕ) (out : List ℕ) → n < lines h → length out ≡ 64 → accessRefusal keys n out m ≡ 0
   unfolding accessRefusal
   opened n out q e =
-      passes _ 2 _ (alike (length keys) 48 k48)
-      (passes _ 3 _ (alike (length (m .control)) controlLength (v .formed .control-length))
-      (passes _ 21 _ (ap not (v .right))
-      (passes _ 4 _ (alike (length (m .array)) (arrayLength (depth (m .control))) (v .formed .array-length ∙ ap arrayLength (sym (v .deep))))
-      (passes _ 5 _ (alike (length (m .cache)) (cacheLength (depth (m .control))) (v .sized ∙ ap cacheLength (sym (v .deep))))
-      (passes _ 7 _ (alike (length out) 64 e)
-      (passes _ 6 _ (ap (λ (d : ℕ). leb (lines d) n) (v .deep) ∙ lt-leb (lines h) n q)
-      (passes _ 22 _ (ap (λ (k : ℕ). ltb 0 k) (r .idle))
-      (passes _ 23 _ (ap (λ (d : ℕ). not (formed d (m .cache))) (v .deep) ∙ ap not (facts-formed h (m .cache) (r .live .fit .formed)))
-      none-left))))))))
+      sym (opens v _ (on _ 7 _ (unlike-false e)
+      (on _ 6 _ (ap (λ (d : ℕ). leb (lines d) n) (v .deep) ∙ lt-leb (lines h) n q)
+      (on _ 22 _ (ap (λ (k : ℕ). ltb 0 k) (r .idle))
+      (on _ 23 _ (ap (λ (d : ℕ). not (formed d (m .cache))) (v .deep) ∙ ap not (facts-formed h (m .cache) (r .live .fit .formed))) end)))))
 
   module _ (n allowance : ℕ) (out : List ℕ) (q : n < lines h) (e : length out ≡ 64) where
     w : Access S b m n
@@ -101,13 +84,16 @@ module _ {S : Setting} {b : Book} {m : Module} (r : Ready S b m) where
     Shows o x = NotCut (x .called .answer) → Gives o x
 
     text-is : Shows (b .text n) (read keys n allowance out m)
+    unfolding Gives storesOf
     text-is = go (b .text n) refl
       where
         go : (o : Option (List ℕ)) → b .text n ≡ o → Shows o (read keys n allowance out m)
         go none z =
-            subst (Shows none) (sym (reads-blank w out (opened n out q e) allowance z)) (gives-blank allowance m (stores w) (walk w .cache) out)
+            subst (Shows none) (sym (reads-blank w out (opened n out q e) allowance z))
+            (gives none allowance m (stores w) _ (walk w .cache) _ out (refl, refl))
         go (some t) z =
-            subst (Shows (some t)) (sym (reads-text w out (opened n out q e) allowance t z)) (gives-text allowance m (stores w) (walk w .cache) out t)
+            subst (Shows (some t)) (sym (reads-text w out (opened n out q e) allowance t z))
+            (gives (some t) allowance m (stores w) _ (walk w .cache) t out (refl, refl))
 
   near-is : (n : ℕ) → n < lines h → (storedMinor h m n ≤ counter h m n) × (counter h m n ≤ storedMinor h m n + 3)
   unfolding storedMinor
