@@ -152,5 +152,6 @@ module _ {S : Setting} {b t : Book} {m : Module} {x : List Cell} {r : ℕ} (w : 
   pub holds-after : (j : ℕ) → Holds S t (withMedia (storeAll (mediaOf m) (made (length x + suc j) (batchStores x r))) (m .cache))
   holds-after j =
       subst (λ (d : Media). Holds S t (withMedia d (m .cache)))
-      (ap (λ (xs : List Store). storeAll (media (m .array) now) (made j xs)) (committed-pending (m .control) x r size few ws filled (w .word))
+      (ap (λ (xs : List Store). storeAll (media (m .array) now) (made j xs))
+      (committed-pending (m .control) x r size few ws filled (w .word))
       ∙ sym (upTo j)) (holds-cut pending j)

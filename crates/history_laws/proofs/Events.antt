@@ -25,7 +25,8 @@ use Rattle.calls.specs.Write.{writeStores, writtenCache, writeLoaded, writePath
 use Rattle.calls.specs.Recovery.{recover}
 use Rattle.calls.specs.Format.{formatRefusal, formatted, format}
 use Rattle.calls.specs.DirtyPages.{listRefusal}
-use Rattle.calls.specs.History.{Event, reads, writes, recovers, lists, formats, powerCut, listCall, step, Book, commits, entered, bookAfter, Keyed, Admitted, awaits, Allowed, moduleAfter, bookOf}
+use Rattle.calls.specs.History.{Event, reads, writes, recovers, lists, formats, powerCut, listCall, step, Book}
+use Rattle.calls.specs.History.{commits, entered, bookAfter, Keyed, Admitted, awaits, Allowed, moduleAfter, bookOf}
 use Rattle.call_laws.proofs.Judged.{access-accepted}
 use Rattle.history_laws.proofs.Setting.{Setting}
 use Rattle.history_laws.proofs.State.{Holds, Ready}
@@ -170,7 +171,8 @@ module _ (S : Setting) where
           unfolding commits
           write-done =
               subst (Entered most) (sym (write-is w t allowance))
-              (write-ended _ most (most-is ∙ stores-of) (Done (length xs) 0) (λ a. refl) _ (write-outcome w t (Done (length xs) 0) allowance))
+              (write-ended _ most (most-is ∙ stores-of) (Done (length xs) 0) (λ a. refl) _
+              (write-outcome w t (Done (length xs) 0) allowance))
 
         write-opened : Entered most (write keys n text allowance m)
         write-opened = go (eq-or-not (b .count n) 127)
@@ -247,7 +249,14 @@ module _ (S : Setting) where
         → Inv true b (record { array = m .array; control = m .control; cache = c })
     power-event c size plain =
         let s = v .holds in
-        cut-only (record { sized = size ∙ s .sized; plain = plain; formed = s .formed; right = s .right; deep = s .deep; settled = s .settled })
+        cut-only (record {
+          sized = size ∙ s .sized;
+          plain = plain;
+          formed = s .formed;
+          right = s .right;
+          deep = s .deep;
+          settled = s .settled;
+        })
 
     event : (e : Event) → Admitted keys aw m e → Inv (awaits aw ((step e m) .answer)) (bookAfter e m b) ((step e m) .after)
     unfolding Admitted step bookAfter awaits WriteInv format

@@ -18,7 +18,8 @@ use Rattle.slot_map.specs.Slots.{slotOf, levelOf}
 use Rattle.slot_map.proofs.Laws.{slot-within, level-slot, level-within}
 use Rattle.control.specs.Control.{Cell}
 use Rattle.cache.specs.Cache.{owner, dirty, content, shadowOwner, withSlot, topSlot, holds, current}
-use Rattle.cache.proofs.Laws.{owner-same, content-same, owner-other, dirty-other, content-other, holds-owner, owner-holds, slot-holds, current-cached, current-missing}
+use Rattle.cache.proofs.Laws.{owner-same, content-same, owner-other, dirty-other, content-other}
+use Rattle.cache.proofs.Laws.{holds-owner, owner-holds, slot-holds, current-cached, current-missing}
 use Rattle.journal.proofs.Again.{put-cells}
 use Rattle.calls.specs.Path.{evicted, nodeCell}
 use Rattle.call_laws.proofs.Fresh.{fresh-length}

@@ -77,7 +77,8 @@ module _ {S : Setting} {b t : Book} {m : Module} {x : List Cell} {r : ℕ} (w : 
 
   all : length xs ≤ allowance → Ended (allStored allowance m xs answer c)
   all p =
-      subst (λ (l : List Store). Ended (record { answer = answer; after = withMedia (storeAll (mediaOf m) l) c })) (sym (made-all allowance xs p))
+      subst (λ (l : List Store). Ended (record { answer = answer; after = withMedia (storeAll (mediaOf m) l) c }))
+      (sym (made-all allowance xs p))
       (done refl (record {
         holds = settled-holds c (live .fit .sized) (live .fit .bytes) (settled-whole w);
         idle = settled-whole w .idle;

@@ -26,7 +26,8 @@ use Rattle.cache.specs.Cache.{cellContent}
 use Rattle.journal.specs.Journal.{Store, batchStores}
 use Rattle.journal.proofs.Again.{put-cells}
 use Rattle.calls.specs.Call.{Module, mediaOf, refuse, pathOf, accessRefusal}
-use Rattle.calls.specs.Read.{Reading, sideBytes, sideOk, lineText, pageBlock, lineMinor, answered, readLoaded, readPath, readJudged, read, refusedRead}
+use Rattle.calls.specs.Read.{Reading, sideBytes, sideOk, lineText, pageBlock, lineMinor}
+use Rattle.calls.specs.Read.{answered, readLoaded, readPath, readJudged, read, refusedRead}
 use Rattle.calls.specs.Path.{loaded, loadPath}
 use Rattle.calls.specs.History.{Book}
 use Rattle.call_laws.proofs.Loads.{Loads, LoadsIf, path-loads}
@@ -66,7 +67,8 @@ module _ {S : Setting} {b : Book} {m : Module} {n : ℕ} (w : Access S b m n) wh
   unfolding LoadsIf
   loads =
       subst (LoadsIf h low high keys (m .array) (whole .whole) (whole .plain) (pageOf n) page) (walk .same)
-      (path-loads h low high keys (m .array) (whole .whole) (whole .plain) (pageOf n) page (treeRoot S (treeOf b)) (m .cache) (ready .live .fit))
+      (path-loads h low high keys (m .array) (whole .whole) (whole .plain) (pageOf n) page (treeRoot S (treeOf b)) (m .cache)
+      (ready .live .fit))
 
   pub reached : Reached S (treeOf b) (put-cells (m .array) (walk .cells)) (walk .cache) n
   reached = record { live = walk .live; inside = inside; held = walk .path }
@@ -103,7 +105,8 @@ module _ {S : Setting} {b : Book} {m : Module} {n : ℕ} (w : Access S b m n) wh
     unfolding sideOk
     side-ok =
         eq-eqb _ _
-        (ap fromLe side-is ∙ sym (ap fromLe (ap₂ (λ (l : List ℕ) (k : ℕ). sideBytes keys l n k (lineMinor (walk .cache) n)) cipher-is major-is
+        (ap fromLe side-is
+        ∙ sym (ap fromLe (ap₂ (λ (l : List ℕ) (k : ℕ). sideBytes keys l n k (lineMinor (walk .cache) n)) cipher-is major-is
         ∙ ap (sideBytes keys cipher n 0) minor-is)))
 
     text-is : lineText keys (m .array) (walk .cache) n ≡ t
@@ -122,19 +125,24 @@ module _ {S : Setting} {b : Book} {m : Module} {n : ℕ} (w : Access S b m n) wh
     chosen : Bool → Bool → Reading
     chosen x y =
         cond x (answered allowance m stores (Blank (length stores)) (walk .cache) (replicate 64 0) out)
-        (cond y (answered allowance m stores (Done (length stores) 0) (walk .cache) (lineText keys (m .array) (walk .cache) n) out) (refusedRead (refuse m 25 n 0) out))
+        (cond y (answered allowance m stores (Done (length stores) 0) (walk .cache) (lineText keys (m .array) (walk .cache) n) out)
+        (refusedRead (refuse m 25 n 0) out))
 
-    pub reads-blank : b .text n ≡ none → read keys n allowance out m ≡ answered allowance m stores (Blank (length stores)) (walk .cache) (replicate 64 0) out
+    pub reads-blank : b .text n ≡ none
+        → read keys n allowance out m ≡ answered allowance m stores (Blank (length stores)) (walk .cache) (replicate 64 0) out
     unfolding readLoaded chosen RowOk
     reads-blank e =
         let none-yet : b .count n ≡ 0 = subst (λ (o : Option (List ℕ)). RowOk S (treeOf b) n o (m .array)) e (was .keeps .rows n inside) in
-        opened ∙ ap (λ (x : Bool). chosen x (sideOk keys (m .array) (walk .cache) n)) (eq-eqb (lineMinor (walk .cache) n) 0 (minor-is ∙ none-yet))
+        opened ∙ ap (λ (x : Bool). chosen x (sideOk keys (m .array) (walk .cache) n))
+        (eq-eqb (lineMinor (walk .cache) n) 0 (minor-is ∙ none-yet))
 
-    pub reads-text : (t : List ℕ) → b .text n ≡ some t → read keys n allowance out m ≡ answered allowance m stores (Done (length stores) 0) (walk .cache) t out
+    pub reads-text : (t : List ℕ) → b .text n ≡ some t
+        → read keys n allowance out m ≡ answered allowance m stores (Done (length stores) 0) (walk .cache) t out
     unfolding readLoaded chosen RowOk
     reads-text t e =
         let row = subst (λ (o : Option (List ℕ)). RowOk S (treeOf b) n o (m .array)) e (was .keeps .rows n inside) in
         opened
-        ∙ ap (λ (x : Bool). chosen x (sideOk keys (m .array) (walk .cache) n)) (ne-eqb (lineMinor (walk .cache) n) 0 (λ z. omega (arith, minor-is, row .0, z)))
+        ∙ ap (λ (x : Bool). chosen x (sideOk keys (m .array) (walk .cache) n))
+        (ne-eqb (lineMinor (walk .cache) n) 0 (λ z. omega (arith, minor-is, row .0, z)))
         ∙ ap (chosen false) (side-ok t (row .1) (row .3))
         ∙ ap (λ (l : List ℕ). answered allowance m stores (Done (length stores) 0) (walk .cache) l out) (text-is t (row .1) (row .3))

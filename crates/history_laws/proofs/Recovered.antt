@@ -18,12 +18,17 @@ use Rattle.slot_map.proofs.Laws.{slot-within, level-slot, level-low, level-high
 use Rattle.counter.specs.Counter.{major, minors, minor, counterBlock, phaseOf, forward, mayForward}
 use Rattle.counter.proofs.Laws.{length-minors, forward-reaches}
 use Rattle.tag.specs.Tag.{nodeTag}
-use Rattle.cache.specs.Cache.{owner, dirty, content, shadowOwner, shadowOwners, withSlot, badSlot, emptyCache, from, topSlot, holds, current}
-use Rattle.cache.proofs.Laws.{Owned, Formed, not-bad, length-with, owner-same, dirty-same, content-same, owner-other, dirty-other, content-other, length-empty, owner-empty, dirty-empty, holds-owner, owner-holds, current-cached, current-missing}
+use Rattle.cache.specs.Cache.{owner, dirty, content, shadowOwner, shadowOwners, withSlot}
+use Rattle.cache.specs.Cache.{badSlot, emptyCache, from, topSlot, holds, current}
+use Rattle.cache.proofs.Laws.{Owned, Formed, not-bad, length-with, owner-same, dirty-same}
+use Rattle.cache.proofs.Laws.{content-same, owner-other, dirty-other, content-other, length-empty, owner-empty}
+use Rattle.cache.proofs.Laws.{dirty-empty, holds-owner, owner-holds, current-cached, current-missing}
 use Rattle.answer.specs.declared.Answer.the-variants.{Done}
 use Rattle.control.specs.Control.{depth, root}
 use Rattle.calls.specs.Call.{Module, Called}
-use Rattle.calls.specs.Recovery.{phaseByte, forwardFrom, total, Rebuilt, rebuilt, damaged, rebuildBlock, rebuildSlot, rebuildBlocks, rebuildNode, rebuildNodes, recoverRoot, recoverRebuilt, recoverShadow, recoverMedia, refuseAfter}
+use Rattle.calls.specs.Recovery.{phaseByte, forwardFrom, total, Rebuilt, rebuilt, damaged}
+use Rattle.calls.specs.Recovery.{rebuildBlock, rebuildSlot, rebuildBlocks, rebuildNode, rebuildNodes, recoverRoot}
+use Rattle.calls.specs.Recovery.{recoverRebuilt, recoverShadow, recoverMedia, refuseAfter}
 use Rattle.calls.specs.Format.{countsFrom, freshNode}
 use Rattle.calls.specs.Path.{childTags}
 use Rattle.call_laws.proofs.Tags.{tags-agree}
@@ -71,13 +76,15 @@ module _ (a : List ℕ) {T : Tree} (small : Small T) where
       let phase : phaseByte a n ≡ phaseOf (count n) = subst (λ (k : ℕ). phaseByte a k ≡ phaseOf (count k)) here (phases 0 (omega arith)) in
       let reach : forward s (phaseByte a n) ≡ count n =
       ap (forward s) phase
-      ∙ forward-reaches s (count n) (subst (λ (k : ℕ). s ≤ count k) here (near 0 (omega arith) .0)) (subst (λ (k : ℕ). count k ≤ s + 3) here (near 0 (omega arith) .1)) in
+      ∙ forward-reaches s (count n) (subst (λ (k : ℕ). s ≤ count k) here (near 0 (omega arith) .0))
+      (subst (λ (k : ℕ). count k ≤ s + 3) here (near 0 (omega arith) .1)) in
       let may : mayForward s (phaseByte a n) ≡ true = may-forward s (phaseByte a n) (omega arith) (omega (arith, small .minor n)) in
       let rest : forwardFrom a (suc n) ss ≡ some (countsFrom count (suc n) (length ss)) =
       forward-counts (suc n) ss
       (λ k q. subst (λ (j : ℕ). (getD ss k 0 ≤ count j) × (count j ≤ getD ss k 0 + 3)) (omega arith) (near (suc k) (omega arith)))
       (λ k q. subst (λ (j : ℕ). phaseByte a j ≡ phaseOf (count j)) (omega arith) (phases (suc k) (omega arith))) in
-      ap₂ (λ (b : Bool) (r : Option (List ℕ)). brought b (forward s (phaseByte a n)) r) may rest ∙ ap (λ (x : ℕ). some (x ∷ countsFrom count (suc n) (length ss))) reach
+      ap₂ (λ (b : Bool) (r : Option (List ℕ)). brought b (forward s (phaseByte a n)) r) may rest
+      ∙ ap (λ (x : ℕ). some (x ∷ countsFrom count (suc n) (length ss))) reach
 
 -- ---- sums slot by slot
 
@@ -85,7 +92,8 @@ adds-none : (g : ℕ → ℕ) (s sum : ℕ) → sum ≡ sum + total (countsFrom 
 unfolding total countsFrom
 adds-none g s sum = sym (add-zero sum)
 
-adds-step : (g : ℕ → ℕ) (s n sum t told : ℕ) → t ≡ sum + g s → told ≡ t + total (countsFrom g (suc s) n) → told ≡ sum + total (countsFrom g s (suc n))
+adds-step : (g : ℕ → ℕ) (s n sum t told : ℕ) → t ≡ sum + g s → told ≡ t + total (countsFrom g (suc s) n)
+    → told ≡ sum + total (countsFrom g s (suc n))
 unfolding total countsFrom
 adds-step g s n sum t told e q = omega (arith, e, q)
 
@@ -107,14 +115,16 @@ module _ {S : Setting} {T : Tree} {a : List ℕ} (m : Durable S T a) where
       ∙ ap (λ (n : ℕ). some (countsFrom count (64 * p) n)) size
 
   block-built : (c : List ℕ) (sum s p : ℕ) → p < pages h
-      → rebuildBlock h a c sum s p ≡ rebuilt (withSlot c s (suc p) 1 (treeNode S T 0 p)) (sum + (total (countsFrom count (64 * p) 64) - total (minors (block p))))
+      → rebuildBlock h a c sum s p
+      ≡ rebuilt (withSlot c s (suc p) 1 (treeNode S T 0 p)) (sum + (total (countsFrom count (64 * p) 64) - total (minors (block p))))
   unfolding rebuildBlock freshNode
   block-built c sum s p q =
       ap (λ (r : Option (List ℕ)). elim r as (λ z. Rebuilt) [
         | none ↦ damaged
         | some ms ↦ rebuilt (withSlot c s (suc p) 1 (counterBlock (major (block p)) ms)) (sum + (total ms - total (minors (block p))))
       ]) (forwarded p q)
-      ∙ ap (λ (k : ℕ). rebuilt (withSlot c s (suc p) 1 (counterBlock k (countsFrom count (64 * p) 64))) (sum + (total (countsFrom count (64 * p) 64) - total (minors (block p))))) (m .majors p q)
+      ∙ ap (λ (k : ℕ). rebuilt (withSlot c s (suc p) 1 (counterBlock k (countsFrom count (64 * p) 64)))
+      (sum + (total (countsFrom count (64 * p) 64) - total (minors (block p))))) (m .majors p q)
 
   -- ---- the cache, slot by slot
 
@@ -154,7 +164,8 @@ module _ {S : Setting} {T : Tree} {a : List ℕ} (m : Durable S T a) where
       own t p q (inl z) = u .rest t (omega arith) q ∙ sym (subst (λ (k : ℕ). shadowOwner h a k ≡ 0) (sym z) e)
       own t p q (inr z) = u .listed t (omega (arith, z)) q
 
-      made : (t i : ℕ) → t < suc s → t < slots h → shadowOwner h a t ≡ suc i → (t ≡ s) ⊎ (t ≡ s → ⊥) → content c t ≡ treeNode S T (levelOf t) i
+      made : (t i : ℕ) → t < suc s → t < slots h → shadowOwner h a t ≡ suc i → (t ≡ s) ⊎ (t ≡ s → ⊥)
+          → content c t ≡ treeNode S T (levelOf t) i
       made t i p q o (inl z) = absurd (omega (arith, o, subst (λ (k : ℕ). shadowOwner h a k ≡ 0) (sym z) e))
       made t i p q o (inr z) = u .fresh t i (omega (arith, z)) q o
 
@@ -163,7 +174,8 @@ module _ {S : Setting} {T : Tree} {a : List ℕ} (m : Durable S T a) where
   listed-node s i within e = belongs-node h s i (m .owners .belong s i within e)
 
   -- a listed slot is filled with its node of the fresh tree
-  module _ (s i : ℕ) (c b : List ℕ) (within : s < slots h) (e : shadowOwner h a s ≡ suc i) (same : b ≡ treeNode S T (levelOf s) i) (u : Upto s c) where
+  module _ (s i : ℕ) (c b : List ℕ) (within : s < slots h) (e : shadowOwner h a s ≡ suc i) (same : b ≡ treeNode S T (levelOf s) i)
+      (u : Upto s c) where
     size : length b ≡ 64
     size = ap length same ∙ fresh-length keys count (levelOf s) i
 
@@ -186,7 +198,8 @@ module _ {S : Setting} {T : Tree} {a : List ℕ} (m : Durable S T a) where
     own t p q (inl z) = subst (λ (k : ℕ). owner next k ≡ shadowOwner h a k) (sym z) (own-same ∙ sym e)
     own t p q (inr z) = own-other t z ∙ u .listed t (omega (arith, z)) q
 
-    made : (t j : ℕ) → t < suc s → t < slots h → shadowOwner h a t ≡ suc j → (t ≡ s) ⊎ (t ≡ s → ⊥) → content next t ≡ treeNode S T (levelOf t) j
+    made : (t j : ℕ) → t < suc s → t < slots h → shadowOwner h a t ≡ suc j → (t ≡ s) ⊎ (t ≡ s → ⊥)
+        → content next t ≡ treeNode S T (levelOf t) j
     made t j p q o (inl z) =
         let index : i ≡ j = omega (arith, e, subst (λ (k : ℕ). shadowOwner h a k ≡ suc j) z o) in
         subst (λ (k : ℕ). content next k ≡ treeNode S T (levelOf k) j) (sym z)
@@ -215,7 +228,8 @@ module _ {S : Setting} {T : Tree} {a : List ℕ} (m : Durable S T a) where
   -- ---- the tree
 
   -- a node whose slot is rebuilt, or was never listed, is the fresh tree's
-  current-fresh : (s : ℕ) (c : List ℕ) → Upto s c → (l i : ℕ) → l ≤ h → i < nodes h l → slotOf l i < s → current h a c l i ≡ treeNode S T l i
+  current-fresh : (s : ℕ) (c : List ℕ) → Upto s c → (l i : ℕ) → l ≤ h → i < nodes h l → slotOf l i < s
+      → current h a c l i ≡ treeNode S T l i
   current-fresh s c u l i low node-in before = go (holds c l i) refl
     where
       within : slotOf l i < slots h
@@ -236,18 +250,21 @@ module _ {S : Setting} {T : Tree} {a : List ℕ} (m : Durable S T a) where
   unfolding freshNode slots
   node-built s i c far within e u =
       ap (λ (k : ℕ). childTags keys (k - 1) (current h a c (k - 1)) i) level
-      ∙ above ((s - 4) / 2) (omega (arith, level, level-within h s within)) (omega arith) (subst (λ (k : ℕ). i < nodes h k) level (listed-node s i within e .0))
+      ∙ above ((s - 4) / 2) (omega (arith, level, level-within h s within)) (omega arith)
+      (subst (λ (k : ℕ). i < nodes h k) level (listed-node s i within e .0))
       ∙ sym (ap (λ (k : ℕ). treeNode S T k i) level)
     where
       level : levelOf s ≡ suc ((s - 4) / 2)
       level = level-high s far
 
-      above : (k : ℕ) → suc k ≤ h → 4 + 2 * k ≤ s → i < nodes h (suc k) → childTags keys (suc k - 1) (current h a c (suc k - 1)) i ≡ treeNode S T (suc k) i
+      above : (k : ℕ) → suc k ≤ h → 4 + 2 * k ≤ s → i < nodes h (suc k)
+          → childTags keys (suc k - 1) (current h a c (suc k - 1)) i ≡ treeNode S T (suc k) i
       above k low far inside =
           let one : suc k - 1 ≡ k = omega arith in
           ap (λ (j : ℕ). childTags keys j (current h a c j) i) one
           ∙ tags-agree keys k (current h a c k) (treeNode S T k) (8 * i) 8
-          (λ j p q. current-fresh s c u k j (omega arith) (omega (arith, nodes-below h k low)) (omega (arith, slot-within k k j (le-refl k))))
+          (λ j p q. current-fresh s c u k j (omega arith) (omega (arith, nodes-below h k low))
+          (omega (arith, slot-within k k j (le-refl k))))
 
   -- ---- all slots
 
@@ -280,21 +297,43 @@ module _ {S : Setting} {T : Tree} {a : List ℕ} (m : Durable S T a) where
 
   blocks-from : (n s : ℕ) (c : List ℕ) (sum : ℕ) → s + n ≤ 4 → Upto s c → BlocksFrom n s c sum
   unfolding rebuildBlocks rebuildSlot from slots
-  blocks-from zero s c sum p u = record { cache = c; told = sum; same = refl; upto = subst (λ (k : ℕ). Upto k c) (omega arith) u; adds = adds-none (λ t. added (shadowOwner h a t)) s sum }
+  blocks-from zero s c sum p u =
+      record {
+        cache = c;
+        told = sum;
+        same = refl;
+        upto = subst (λ (k : ℕ). Upto k c) (omega arith) u;
+        adds = adds-none
+            (λ t. added (shadowOwner h a t)) s sum;
+      }
   blocks-from (suc n) s c sum p u = go (λ d t v. blocks-from n (suc s) d t (omega arith) v) (shadowOwner h a s) refl
     where
       after : Rebuilt → Rebuilt
       after r = elim r as (λ z. Rebuilt) [ damaged ↦ damaged | rebuilt d t ↦ rebuildBlocks h a (suc s) (listing (suc s) n) d t ]
 
-      step : {d : List ℕ} {t : ℕ} → rebuildSlot h a c sum s (shadowOwner h a s) ≡ rebuilt d t → t ≡ sum + added (shadowOwner h a s) → BlocksFrom n (suc s) d t → BlocksFrom (suc n) s c sum
+      step : {d : List ℕ} {t : ℕ} → rebuildSlot h a c sum s (shadowOwner h a s) ≡ rebuilt d t → t ≡ sum + added (shadowOwner h a s)
+          → BlocksFrom n (suc s) d t → BlocksFrom (suc n) s c sum
       step e w r =
-          record { cache = r .cache; told = r .told; same = ap after e ∙ r .same; upto = subst (λ (k : ℕ). Upto k (r .cache)) (omega arith) (r .upto); adds = adds-step (λ t. added (shadowOwner h a t)) s n sum _ (r .told) w (r .adds) }
+          record {
+            cache = r .cache;
+            told = r .told;
+            same = ap after e
+                ∙ r .same;
+            upto = subst (λ (k : ℕ). Upto k (r .cache)) (omega arith) (r .upto);
+            adds = adds-step
+                (λ t. added (shadowOwner h a t)) s n sum _ (r .told) w (r .adds);
+          }
 
       go : ((d : List ℕ) (t : ℕ) → Upto (suc s) d → BlocksFrom n (suc s) d t) → (o : ℕ) → shadowOwner h a s ≡ o → BlocksFrom (suc n) s c sum
       go others zero e = step (ap (rebuildSlot h a c sum s) e) (owner-none (shadowOwner h a s) sum e) (others c sum (skipped s c e u))
       go others (suc i) e =
           let level : levelOf s ≡ 0 = level-low s (omega arith) in
-          let page : i < pages h = omega (arith, subst (λ (k : ℕ). i < nodes h k) level (listed-node s i (omega arith) e .0), nodes-bottom h) in
+          let page : i < pages h = omega (
+            arith,
+            subst (λ (k : ℕ). i < nodes h k) level
+                (listed-node s i (omega arith) e .0),
+            nodes-bottom h,
+          ) in
           step (ap (rebuildSlot h a c sum s) e ∙ block-built c sum s i page) (owner-some (shadowOwner h a s) i sum e)
           (others (withSlot c s (suc i) 1 (treeNode S T 0 i)) _
           (filled s i c (treeNode S T 0 i) (omega arith) e (ap (λ (k : ℕ). treeNode S T k i) (sym level)) u))
@@ -314,9 +353,11 @@ module _ {S : Setting} {T : Tree} {a : List ℕ} (m : Durable S T a) where
           subst (λ (x : List ℕ). Upto (s + suc n) (rebuildNodes h keys a (suc s) (listing (suc s) n) x)) (sym e)
           (subst (λ (k : ℕ). Upto k (rebuildNodes h keys a (suc s) (listing (suc s) n) d)) (omega arith) (others d v))
 
-      go : Others → (o : ℕ) → shadowOwner h a s ≡ o → Upto (s + suc n) (rebuildNodes h keys a (suc s) (listing (suc s) n) (rebuildNode h keys a c s (shadowOwner h a s)))
+      go : Others → (o : ℕ) → shadowOwner h a s ≡ o
+          → Upto (s + suc n) (rebuildNodes h keys a (suc s) (listing (suc s) n) (rebuildNode h keys a c s (shadowOwner h a s)))
       go others zero e = step others (ap (rebuildNode h keys a c s) e) (skipped s c e u)
-      go others (suc i) e = step others (ap (rebuildNode h keys a c s) e) (filled s i c _ (omega arith) e (node-built s i c far (omega arith) e u) u)
+      go others (suc i) e =
+          step others (ap (rebuildNode h keys a c s) e) (filled s i c _ (omega arith) e (node-built s i c far (omega arith) e u) u)
 
   -- ---- the whole cache
 
@@ -387,7 +428,8 @@ module _ {S : Setting} {T : Tree} (x : Module) (deep : depth (x .control) ≡ S 
       let top-in = slot-within h h 0 (le-refl h) in
       ap (λ (b : Bool). cond b (done-with sum) (refuseAfter k x 29 0))
       (eq-eqb _ _ (ap (λ (d : ℕ). nodeTag keys (current d a c d 0) d 0) deep
-      ∙ ap (λ (b : List ℕ). nodeTag keys b h 0) (current-fresh m (slots h) c (all-slots m) h 0 (le-refl h) (nodes-some h h) top-in) ∙ sym top))
+      ∙ ap (λ (b : List ℕ). nodeTag keys b h 0) (current-fresh m (slots h) c (all-slots m) h 0 (le-refl h) (nodes-some h h) top-in)
+      ∙ sym top))
 
   -- so recovery is done
   pub recovered : recoverMedia keys k x ≡ done-with (blocks m .told)

@@ -1,5 +1,5 @@
--- Recovery, wherever a module stands in a history: under the same keys it is never refused; cut, it leaves what the next one needs; done, the
--- module is ready. Assumes nothing.
+-- Recovery, wherever a module stands in a history: under the same keys it is never refused; cut, it leaves what the next one needs; done,
+-- the module is ready. Assumes nothing.
 use mathlib.Core.Path.{_≡_, refl, sym, ap, _∙_, subst}
 use mathlib.Core.Bool.{Bool, true, false, cond}
 use mathlib.Core.List.{List, []}

@@ -21,7 +21,8 @@ use Rattle.calls.specs.Path.{Loaded, loaded, differs}
 use Rattle.calls.specs.Call.{Module, Called, mediaOf, withMedia, storing, refuse, pathOf, accessRefusal}
 use Rattle.calls.specs.Read.{answered, refusedRead, lineMinor, sideOk, lineText, readLoaded, readPath, readJudged, read}
 use Rattle.calls.specs.Write.{writeStores, writtenCache, writeLoaded, writePath, writeJudged, write}
-use Rattle.calls.specs.Recovery.{refuseAfter, Rebuilt, rebuilt, damaged, rebuildBlocks, rebuildNodes, recoveryRefusal, recoverRoot, recoverRebuilt, recoverShadow, recoverMedia, recoverJudged, recover}
+use Rattle.calls.specs.Recovery.{refuseAfter, Rebuilt, rebuilt, damaged, rebuildBlocks, rebuildNodes, recoveryRefusal}
+use Rattle.calls.specs.Recovery.{recoverRoot, recoverRebuilt, recoverShadow, recoverMedia, recoverJudged, recover}
 use Rattle.history_laws.proofs.Outcome.{no-elements, madeStores, cutAmong, cases}
 
 -- ---- answers apart
@@ -58,7 +59,8 @@ module _ (m : Module) where
         xs = batchStores x (root (m .control))
 
         go : (s t : Bool) → Same m ((cond s (answered allowance m xs (Blank (length xs)) c (replicate 64 0) out)
-            (cond t (answered allowance m xs (Done (length xs) 0) c (lineText keys (m .array) c line) out) (refusedRead (refuse m 25 line 0) out))) .called)
+            (cond t (answered allowance m xs (Done (length xs) 0) c (lineText keys (m .array) c line) out)
+            (refusedRead (refuse m 25 line 0) out))) .called)
         go true t = storing-same allowance xs (Blank (length xs)) c (λ n a b e. blank-not e)
         go false true = storing-same allowance xs (Done (length xs) 0) c (λ n a b e. done-not e)
         go false false = λ n a b e. refl

@@ -112,7 +112,8 @@ module _ {S : Setting} {T U : Tree} {p : ℕ} {c : List ℕ} {flag : ℕ} (w : R
         record {
           sized = length-with h d (u .sized) (slot n) there (suc (onPath p n)) (flagAt flag n) b size ∙ u .sized;
           bytes = below-with h d (u .sized) (slot n) there (suc (onPath p n)) (flagAt flag n) b size
-              (omega (arith, flag-small flag (w .small) n)) (subst (Below 256) (sym new) (fresh-bytes keys (U .count) n (onPath p n))) (u .bytes);
+              (omega (arith, flag-small flag (w .small) n)) (subst (Below 256) (sym new) (fresh-bytes keys (U .count) n (onPath p n)))
+              (u .bytes);
           own = λ t s. owns t s (eq-or-not t (slot n));
           on = λ k s. contents k s (eq-or-not k n);
           flags = λ k s. dirties k s (eq-or-not k n);

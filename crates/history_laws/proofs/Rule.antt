@@ -1,5 +1,5 @@
--- The history rule: in every allowed list from a done format, a recovery with the same keys is not refused, and one that is done restores what
--- the book of the list up to it says. Assumes nothing.
+-- The history rule: in every allowed list from a done format, a recovery with the same keys is not refused, and one that is done restores
+-- what the book of the list up to it says. Assumes nothing.
 use mathlib.Core.Path.{_≡_, refl, sym, ap, _∙_, subst}
 use mathlib.Core.Bool.{Bool, true, false, not, cond}
 use mathlib.Core.List.{List, _∷_, _++_}
@@ -22,7 +22,8 @@ use Rattle.calls.specs.Call.{Module, Called, mediaOf, storing, accessRefusal, r
 use Rattle.calls.specs.Read.{Reading, answered, read}
 use Rattle.calls.specs.Recovery.{recover, total}
 use Rattle.calls.specs.Format.{formatRefusal, formatted, format, countsFrom}
-use Rattle.calls.specs.History.{recovers, Book, emptyBook, Allowed, moduleAfter, bookOf, counter, storedMinor, NotCut, Gives, Restored, NotRefused, HistoryRule}
+use Rattle.calls.specs.History.{recovers, Book, emptyBook, Allowed, moduleAfter, bookOf, counter}
+use Rattle.calls.specs.History.{storedMinor, NotCut, Gives, Restored, NotRefused, HistoryRule}
 use Rattle.call_laws.proofs.Judged.{on, end, unlike-false, format-accepted}
 use Rattle.history_laws.proofs.Setting.{Setting}
 use Rattle.history_laws.proofs.Tree.{counts-agree, fresh-minor}
@@ -64,7 +65,8 @@ module _ {S : Setting} {b : Book} {m : Module} (r : Ready S b m) where
   unfolding counter
   counter-is n q =
       let place : 64 * pageOf n + placeOf n ≡ n = omega arith in
-      ap (λ (l : List ℕ). minor l (placeOf n)) (live-current (r .live) 0 (pageOf n) zero-le (omega (arith, page-inside h n q, nodes-bottom h)))
+      ap (λ (l : List ℕ). minor l (placeOf n))
+      (live-current (r .live) 0 (pageOf n) zero-le (omega (arith, page-inside h n q, nodes-bottom h)))
       ∙ fresh-minor S (was .keeps .durable .small) (pageOf n) (placeOf n) (omega arith) ∙ ap (b .count) place
 
   opened : (n : ℕ) (out : List ℕ) → n < lines h → length out ≡ 64 → accessRefusal keys n out m ≡ 0
@@ -100,7 +102,8 @@ module _ {S : Setting} {b : Book} {m : Module} (r : Ready S b m) where
   near-is n q =
       let place : 64 * pageOf n + placeOf n ≡ n = omega arith in
       let d = was .keeps .durable in
-      let behind = subst (λ (x : ℕ). storedMinor h m n ≤ b .count x) place (d .behind (pageOf n) (placeOf n) (page-inside h n q) (omega arith)) in
+      let behind = subst (λ (x : ℕ). storedMinor h m n ≤ b .count x) place
+      (d .behind (pageOf n) (placeOf n) (page-inside h n q) (omega arith)) in
       let close = subst (λ (x : ℕ). b .count x ≤ storedMinor h m n + phaseOf (b .count x)) place
       (d .near (pageOf n) (placeOf n) (page-inside h n q) (omega arith)) in
       (omega (arith, behind, counter-is n q), omega (arith, close, counter-is n q))

@@ -1,5 +1,5 @@
--- The sum that recovery tells: the total of what each line's counter is above its minor in the array. A page that the shadow does not list adds
--- nothing, and a listed page stands in one slot. Assumes nothing.
+-- The sum that recovery tells: the total of what each line's counter is above its minor in the array. A page that the shadow does not list
+-- adds nothing, and a listed page stands in one slot. Assumes nothing.
 use mathlib.Core.Path.{_≡_, refl, sym, ap, ap₂, _∙_, subst}
 use mathlib.Core.Logic.{_⊎_, inl, inr}
 use mathlib.Core.Bool.{Bool, cond}
@@ -50,7 +50,8 @@ module _ (f : ℕ → ℕ) where
   sum-single q s zero p r e = absurd (omega arith)
   sum-single q s (suc k) p r e = go (λ u w. sum-single q (suc s) k u w (λ x i j z. e x (omega arith) (omega arith) z)) (eq-or-not s q)
     where
-      go : (suc s ≤ q → q < suc s + k → total (countsFrom f (suc s) k) ≡ f q) → (s ≡ q) ⊎ (s ≡ q → ⊥) → f s + total (countsFrom f (suc s) k) ≡ f q
+      go : (suc s ≤ q → q < suc s + k → total (countsFrom f (suc s) k) ≡ f q) → (s ≡ q) ⊎ (s ≡ q → ⊥)
+          → f s + total (countsFrom f (suc s) k) ≡ f q
       go rest (inl z) = omega (arith, ap f z, sum-zero (suc s) k (λ x u w. e x (omega arith) (omega arith) (λ y. omega arith)))
       go rest (inr z) = omega (arith, e s (omega arith) (omega arith) z, rest (omega (arith, z)) (omega arith))
 
@@ -146,7 +147,8 @@ module _ {S : Setting} {T : Tree} {a : List ℕ} (m : Durable S T a) where
   -- the one page that it lists
   lone : (s q : ℕ) → q < pages h → q % 4 ≡ s → shadowOwner h a s ≡ suc q → total (countsFrom (Z s) 0 (pages h)) ≡ D q
   lone s q page own e =
-      sum-single (Z s) q 0 (pages h) zero-le (omega arith) (λ x u w z. Z-none s x (omega arith) (λ y. z (omega (arith, e, y)))) ∙ Z-on s q own
+      sum-single (Z s) q 0 (pages h) zero-le (omega arith) (λ x u w z. Z-none s x (omega arith) (λ y. z (omega (arith, e, y))))
+      ∙ Z-on s q own
 
   slot-sum : (s : ℕ) → s < 4 → total (countsFrom (Z s) 0 (pages h)) ≡ added m (shadowOwner h a s)
   unfolding slotOf slots added
@@ -169,6 +171,7 @@ module _ {S : Setting} {T : Tree} {a : List ℕ} (m : Durable S T a) where
       ∙ ap₂ _+_ (slot-sum 0 (lit< tt)) (sum-add (Z 1) (λ p. Z 2 p + Z 3 p) 0 (pages h)
       ∙ ap₂ _+_ (slot-sum 1 (lit< tt)) (sum-add (Z 2) (Z 3) 0 (pages h) ∙ ap₂ _+_ (slot-sum 2 (lit< tt)) (slot-sum 3 (lit< tt))))
 
-  pub told-is : (told : ℕ) → told ≡ 0 + total (countsFrom (λ s. added m (shadowOwner h a s)) 0 4) → told ≡ total (countsFrom above 0 (lines h))
+  pub told-is : (told : ℕ) → told ≡ 0 + total (countsFrom (λ s. added m (shadowOwner h a s)) 0 4)
+      → told ≡ total (countsFrom above 0 (lines h))
   unfolding total countsFrom lines
   told-is told e = omega (arith, e, all-pages, by-pages (pages h) (le-refl (pages h)))

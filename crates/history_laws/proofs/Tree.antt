@@ -54,7 +54,8 @@ pub counts-agree : (f g : ℕ → ℕ) (n k : ℕ) → ((x : ℕ) → n ≤ x �
 unfolding countsFrom
 counts-agree f g n zero e = refl
 counts-agree f g n (suc k) e =
-    ap₂ (λ (a : ℕ) (b : List ℕ). a ∷ b) (e n (le-refl n) (omega arith)) (counts-agree f g (suc n) k (λ x p q. e x (omega arith) (omega arith)))
+    ap₂ (λ (a : ℕ) (b : List ℕ). a ∷ b) (e n (le-refl n) (omega arith))
+    (counts-agree f g (suc n) k (λ x p q. e x (omega arith) (omega arith)))
 
 -- one count replaced
 counts-set : (f g : ℕ → ℕ) (n k j : ℕ) → ((x : ℕ) → (x ≡ n + j → ⊥) → f x ≡ g x) → set (countsFrom f n k) j (g (n + j)) ≡ countsFrom g n k
@@ -110,7 +111,8 @@ module _ (keys : List ℕ) (l : ℕ) (f g : ℕ → List ℕ) where
       let here : i + 0 ≡ i = omega arith in
       put-front (toLe 8 (nodeTag keys (f i) l i)) (tagsFrom keys l f (suc i) n) (toLe 8 (nodeTag keys (g (i + 0)) l (i + 0)))
       (tag8 (i + 0) (g (i + 0)) ∙ sym (tag8 i (f i)))
-      ∙ ap₂ (λ (j : ℕ) (r : List ℕ). toLe 8 (nodeTag keys (g j) l j) ++ r) here (tags-agree keys l f g (suc i) n (λ j q r. e j (λ z. omega arith)))
+      ∙ ap₂ (λ (j : ℕ) (r : List ℕ). toLe 8 (nodeTag keys (g j) l j) ++ r) here
+      (tags-agree keys l f g (suc i) n (λ j q r. e j (λ z. omega arith)))
   tags-put i (suc n) (suc k) p e =
       let t = toLe 8 (nodeTag keys (f i) l i) in
       let at : 8 * suc k ≡ length t + 8 * k = omega (arith, tag8 i (f i)) in
@@ -119,7 +121,8 @@ module _ (keys : List ℕ) (l : ℕ) (f g : ℕ → List ℕ) where
       ap (λ (a : ℕ). put (t ++ tagsFrom keys l f (suc i) n) a (new (i + suc k))) at
       ∙ put-past t (tagsFrom keys l f (suc i) n) (8 * k) (new (i + suc k))
       ∙ ap₂ (λ (b r : List ℕ). toLe 8 (nodeTag keys b l i) ++ r) (e i (λ z. omega arith))
-      (ap (λ (j : ℕ). put (tagsFrom keys l f (suc i) n) (8 * k) (new j)) next ∙ tags-put (suc i) n k (omega arith) (λ j q. e j (λ z. q (omega arith))))
+      (ap (λ (j : ℕ). put (tagsFrom keys l f (suc i) n) (8 * k) (new j)) next
+      ∙ tags-put (suc i) n k (omega arith) (λ j q. e j (λ z. q (omega arith))))
 
 -- ---- nodes
 
@@ -127,7 +130,8 @@ module _ (S : Setting) where
   open Setting S using (keys, keyed, h)
 
   -- counts that agree on the lines below a node give the same node
-  pub fresh-agree : (T U : Tree) (l i : ℕ) → ((x : ℕ) → onPath (pageOf x) l ≡ i → T .count x ≡ U .count x) → treeNode S T l i ≡ treeNode S U l i
+  pub fresh-agree : (T U : Tree) (l i : ℕ) → ((x : ℕ) → onPath (pageOf x) l ≡ i → T .count x ≡ U .count x)
+      → treeNode S T l i ≡ treeNode S U l i
   unfolding freshNode
   fresh-agree T U zero i e =
       ap (counterBlock 0) (counts-agree (T .count) (U .count) (64 * i) 64 (λ x p q. e x (path-bottom (pageOf x) ∙ omega arith)))
@@ -205,5 +209,7 @@ module _ {S : Setting} {T U : Tree} {p : ℕ} {c : List ℕ} (path : Path S T U 
   unfolding renewed
   renewed-fresh zero q = ap (treeNode S U 0) (sym (path-bottom p))
   renewed-fresh (suc l) q =
-      ap₂ (λ (s t : List ℕ). put s (8 * (onPath p l % 8)) (toLe 8 (nodeTag keys t l (onPath p l)))) (path .fresh (suc l) q) (renewed-fresh l (omega arith))
-      ∙ above l (onPath p l) (onPath p (suc l)) (omega (arith, path-up p l)) (λ j d x r. path .same x (λ z. d (sym r ∙ ap (λ (y : ℕ). onPath y l) z)))
+      ap₂ (λ (s t : List ℕ). put s (8 * (onPath p l % 8)) (toLe 8 (nodeTag keys t l (onPath p l)))) (path .fresh (suc l) q)
+      (renewed-fresh l (omega arith))
+      ∙ above l (onPath p l) (onPath p (suc l)) (omega (arith, path-up p l))
+      (λ j d x r. path .same x (λ z. d (sym r ∙ ap (λ (y : ℕ). onPath y l) z)))

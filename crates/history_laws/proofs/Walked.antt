@@ -1,5 +1,5 @@
--- The path of a page, loaded into a cache that goes with its array: no tag differs, and the batch leaves array and cache going together, with
--- the path in the cache. Assumes nothing.
+-- The path of a page, loaded into a cache that goes with its array: no tag differs, and the batch leaves array and cache going together,
+-- with the path in the cache. Assumes nothing.
 use mathlib.Core.Path.{_≡_, refl, sym, ap, ap₂, _∙_, subst}
 use mathlib.Core.Logic.{_⊎_, inl, inr}
 use mathlib.Core.Bool.{Bool, true, false, cond}
@@ -227,7 +227,16 @@ module _ {S : Setting} (T : Tree) {base : List ℕ} (ok : Array S base) where
     levels : (n t : ℕ) (c : List ℕ) (x : List Cell) → Before n t c x → Levels n t c x
     unfolding loadLevels
     levels zero t c x w =
-        record { cache = c; cells = x; same = refl; live = w .live; rows = λ n s. refl; path = λ k s. absurd (omega arith); above = λ k s. refl }
+        record {
+          cache = c;
+          cells = x;
+          same = refl;
+          live = w .live;
+          rows = λ n s. refl;
+          path = λ k s. absurd
+              (omega arith);
+          above = λ k s. refl;
+        }
     levels (suc l) t c x w = joined w (levels l _ _ _ (next w))
 
     -- ---- the path

@@ -27,7 +27,8 @@ use Rattle.journal.proofs.Laws.{batch-empty, made-all, store-none}
 use Rattle.journal.proofs.Again.{put-cells, put-cells-append}
 use Rattle.calls.specs.Call.{Module, Called, mediaOf, withMedia, storing, refuse, accessRefusal}
 use Rattle.calls.specs.Read.{sideBytes, lineMinor}
-use Rattle.calls.specs.Write.{newBlock, stopLoss, dataCell, writeBatch, writeStores, writtenCache, writeLoaded, writePath, writeJudged, write}
+use Rattle.calls.specs.Write.{newBlock, stopLoss, dataCell, writeBatch, writeStores}
+use Rattle.calls.specs.Write.{writtenCache, writeLoaded, writePath, writeJudged, write}
 use Rattle.calls.specs.Recovery.{total}
 use Rattle.calls.specs.Format.{countsFrom}
 use Rattle.calls.specs.Path.{nodeCell, renewPath, renewedRoot}
@@ -40,7 +41,8 @@ use Rattle.history_laws.proofs.Setting.{Setting, Tree, treeOf, raised, 
 use Rattle.history_laws.proofs.Tree.{counts-agree, changed-same, changed-other, raised-same, raised-other}
 use Rattle.history_laws.proofs.Stores.{line-cell}
 use Rattle.history_laws.proofs.Live.{Live}
-use Rattle.history_laws.proofs.Written.{dataBytes, data-agree, new-block, new-root, Entry, written, row-other, row-same, live-written}
+use Rattle.history_laws.proofs.Written.{dataBytes, data-agree, new-block, new-root, Entry}
+use Rattle.history_laws.proofs.Written.{written, row-other, row-same, live-written}
 use Rattle.history_laws.proofs.State.{RowOk, Settled, Holds, settled-holds, all-bytes}
 use Rattle.history_laws.proofs.Batch.{Batch}
 use Rattle.history_laws.proofs.Outcome.{no-elements, Outcome, done, cases, stored}
@@ -194,7 +196,8 @@ module _ {S : Setting} {b : Book} {m : Module} {n : ℕ} (w : Access S b m n) wh
     array-is =
         put-cells-append (m .array) (x ++ blockCell (newBlock c n)) (dataCell keys n text c ∷ [])
         ∙ ap (λ (a : List ℕ). put-cells a (dataCell keys n text c ∷ [])) (put-cells-append (m .array) x (blockCell (newBlock c n)))
-        ∙ ap₂ (λ (l : List ℕ) (d : Cell). put-cells (put-cells (put-cells (m .array) x) (blockCell l)) (d ∷ [])) (new-block (reached w)) data-is
+        ∙ ap₂ (λ (l : List ℕ) (d : Cell). put-cells (put-cells (put-cells (m .array) x) (blockCell l)) (d ∷ []))
+        (new-block (reached w)) data-is
         ∙ ap (λ (k : ℕ). put (put-cells (put-cells (m .array) x) (blockCell (treeNode S U 0 (pageOf n)))) (72 * k) (dataBytes S U n text))
         (sym (line-cell h n))
 
@@ -275,7 +278,8 @@ module _ {S : Setting} {b : Book} {m : Module} {n : ℕ} (w : Access S b m n) wh
     write-outcome answer allowance = stored write-batch live-new answer allowance
 
     pub write-is : (allowance : ℕ)
-        → write keys n text allowance m ≡ storing allowance m (batchStores cells root-new) (Done (length (batchStores cells root-new)) 0) cache-new
+        → write keys n text allowance m
+        ≡ storing allowance m (batchStores cells root-new) (Done (length (batchStores cells root-new)) 0) cache-new
     unfolding writeJudged writePath writeLoaded writeStores writtenCache
     write-is allowance =
         ap (λ (k : ℕ). writeJudged k keys n text allowance m) (t .open-now) ∙ ap (writePath keys n text allowance m) (path-is w)
@@ -286,4 +290,5 @@ module _ {S : Setting} {b : Book} {m : Module} {n : ℕ} (w : Access S b m n) wh
         (renewPath keys c (pageOf n) l (cond stop 0 1) h)) (new-block (reached w))
       where
         stores-at : ℕ → Called
-        stores-at d = storing allowance m (writeStores d keys n text c x) (Done (length (writeStores d keys n text c x)) 0) (writtenCache d keys n c)
+        stores-at d =
+            storing allowance m (writeStores d keys n text c x) (Done (length (writeStores d keys n text c x)) 0) (writtenCache d keys n c)

@@ -36,7 +36,8 @@ use Rattle.calls.specs.Path.{nodeCell, renewPath, renewedRoot}
 use Rattle.call_laws.proofs.Fresh.{fresh-length}
 use Rattle.call_laws.proofs.Loads.{Fit}
 use Rattle.history_laws.proofs.Setting.{Setting, Tree, Small, raised, treeNode, treeRoot, nodeIn}
-use Rattle.history_laws.proofs.Tree.{raised-same, raised-other, fresh-agree, fresh-major, fresh-minor, fresh-with, Path, renewed-fresh}
+use Rattle.history_laws.proofs.Tree.{raised-same, raised-other, fresh-agree, fresh-major}
+use Rattle.history_laws.proofs.Tree.{fresh-minor, fresh-with, Path, renewed-fresh}
 use Rattle.history_laws.proofs.Recovered.{Durable}
 use Rattle.history_laws.proofs.Stores.{kind, first, second, in-line, line-cell, Put, length-after, same-part, nodeBytes, node-put}
 use Rattle.history_laws.proofs.Stores.{line-apart, node-apart, lines-apart, nodes-apart, shadows-apart}
@@ -71,7 +72,8 @@ module _ (S : Setting) (T : Tree) (n : ℕ) (text : List ℕ) (full : length tex
   phase-data : getD (dataBytes S T n text) 64 0 ≡ phaseOf mi
   unfolding dataBytes
   phase-data =
-      getD-at (xorBytes text (pad keys n 0 mi)) (phaseOf mi) (toLe 7 (dataTag keys (xorBytes text (pad keys n 0 mi)) n 0 mi)) 0 64 length-cipher
+      getD-at (xorBytes text (pad keys n 0 mi)) (phaseOf mi)
+      (toLe 7 (dataTag keys (xorBytes text (pad keys n 0 mi)) n 0 mi)) 0 64 length-cipher
 
 -- a phase is byte 64 of its line's cell
 phase-in : (a : List ℕ) (x : ℕ) → phaseByte a x ≡ getD (part a (72 * x) 72) 64 0
@@ -233,7 +235,8 @@ module _ {S : Setting} {T : Tree} {a c : List ℕ} {n : ℕ} (w : Reached S T a 
         (same-part its-cell 72 (le-refl 72) ∙ take-all 72 bytes (omega (arith, size)))
 
     -- a page's block: the new one where it is stored, else the array's
-    page-cases : (P : List ℕ → Type 0) (q : ℕ) → q < pages h → (q ≡ p → P (treeNode S U 0 q)) → ((q ≡ p → stop ≡ false) → P (nodeIn S a 0 q))
+    page-cases : (P : List ℕ → Type 0) (q : ℕ) → q < pages h → (q ≡ p → P (treeNode S U 0 q))
+        → ((q ≡ p → stop ≡ false) → P (nodeIn S a 0 q))
         → P (nodeIn S written 0 q)
     unfolding second
     page-cases P q r new old = go (eq-or-not q p) stop refl
@@ -248,11 +251,12 @@ module _ {S : Setting} {T : Tree} {a c : List ℕ} {n : ℕ} (w : Reached S T a 
         go (inl e) false z =
             subst P (sym (at ∙ subst (λ (k : ℕ). nodeIn S before 0 k ≡ nodeIn S a 0 k) (sym e) (b .stay z))) (old (λ w. z))
 
-    g-minor : (q j : ℕ) → j < 64 → minor (treeNode S U 0 q) j ≡ U .count (64 * q + j)
-    g-minor q j r = fresh-minor S U-small q j r
+    new-minor : (q j : ℕ) → j < 64 → minor (treeNode S U 0 q) j ≡ U .count (64 * q + j)
+    new-minor q j r = fresh-minor S U-small q j r
 
     behind : (q j : ℕ) → q < pages h → j < 64 → minor (nodeIn S written 0 q) j ≤ U .count (64 * q + j)
-    behind q j r s = page-cases (λ x. minor x j ≤ U .count (64 * q + j)) q r (λ e. omega (arith, g-minor q j s)) (λ e. go (eq-or-not (64 * q + j) n))
+    behind q j r s =
+        page-cases (λ x. minor x j ≤ U .count (64 * q + j)) q r (λ e. omega (arith, new-minor q j s)) (λ e. go (eq-or-not (64 * q + j) n))
       where
         go : (64 * q + j ≡ n) ⊎ (64 * q + j ≡ n → ⊥) → minor (nodeIn S a 0 q) j ≤ U .count (64 * q + j)
         go (inl z) = omega (arith, v .durable .behind q j r s, ap count z, ap (U .count) z ∙ raised-same T n)
@@ -260,25 +264,31 @@ module _ {S : Setting} {T : Tree} {a c : List ℕ} {n : ℕ} (w : Reached S T a 
 
     near : (q j : ℕ) → q < pages h → j < 64 → U .count (64 * q + j) ≤ minor (nodeIn S written 0 q) j + phaseOf (U .count (64 * q + j))
     near q j r s =
-        page-cases (λ x. U .count (64 * q + j) ≤ minor x j + phaseOf (U .count (64 * q + j))) q r (λ e. omega (arith, g-minor q j s)) (λ e. go e (eq-or-not (64 * q + j) n))
+        page-cases (λ x. U .count (64 * q + j) ≤ minor x j + phaseOf (U .count (64 * q + j))) q r (λ e. omega (arith, new-minor q j s))
+        (λ e. go e (eq-or-not (64 * q + j) n))
       where
-        go : (q ≡ p → stop ≡ false) → (64 * q + j ≡ n) ⊎ (64 * q + j ≡ n → ⊥) → U .count (64 * q + j) ≤ minor (nodeIn S a 0 q) j + phaseOf (U .count (64 * q + j))
+        go : (q ≡ p → stop ≡ false) → (64 * q + j ≡ n) ⊎ (64 * q + j ≡ n → ⊥)
+            → U .count (64 * q + j) ≤ minor (nodeIn S a 0 q) j + phaseOf (U .count (64 * q + j))
         go e (inr z) = subst (λ (x : ℕ). x ≤ minor (nodeIn S a 0 q) j + phaseOf x) (other (64 * q + j) z) (v .durable .near q j r s)
         go e (inl z) =
             let there : q ≡ p = omega arith in
-            let part-way : phaseOf (suc (count n)) ≡ 0 → ⊥ = λ w. false≢true (sym (sym (t .when) ∙ e there) ∙ eq-eqb (phaseOf (suc (count n))) 0 w) in
+            let part-way : phaseOf (suc (count n)) ≡ 0 → ⊥ =
+            λ w. false≢true (sym (sym (t .when) ∙ e there) ∙ eq-eqb (phaseOf (suc (count n))) 0 w) in
             let old : count n ≤ minor (nodeIn S a 0 q) j + phaseOf (count n) =
             subst (λ (x : ℕ). count x ≤ minor (nodeIn S a 0 q) j + phaseOf (count x)) z (v .durable .near q j r s) in
-            subst (λ (x : ℕ). x ≤ minor (nodeIn S a 0 q) j + phaseOf x) (sym (ap (U .count) z ∙ raised-same T n)) (omega (arith, part-way, old))
+            subst (λ (x : ℕ). x ≤ minor (nodeIn S a 0 q) j + phaseOf x) (sym (ap (U .count) z ∙ raised-same T n))
+            (omega (arith, part-way, old))
 
     phases : (x : ℕ) → x < lines h → phaseByte written x ≡ phaseOf (U .count x)
     phases x q = phase-in written x ∙ go (eq-or-not x n)
       where
         go : (x ≡ n) ⊎ (x ≡ n → ⊥) → getD (part written (72 * x) 72) 64 0 ≡ phaseOf (U .count x)
         go (inl z) =
-            ap (λ (k : ℕ). getD (part written (72 * k) 72) 64 0) z ∙ ap (λ (l : List ℕ). getD l 64 0) row-same ∙ phase-data S U n text (t .full)
+            ap (λ (k : ℕ). getD (part written (72 * k) 72) 64 0) z ∙ ap (λ (l : List ℕ). getD l 64 0) row-same
+            ∙ phase-data S U n text (t .full)
             ∙ sym (ap phaseOf (ap (U .count) z))
-        go (inr z) = ap (λ (l : List ℕ). getD l 64 0) (row-other x q z) ∙ sym (phase-in a x) ∙ v .durable .phases x q ∙ ap phaseOf (other x z)
+        go (inr z) =
+            ap (λ (l : List ℕ). getD l 64 0) (row-other x q z) ∙ sym (phase-in a x) ∙ v .durable .phases x q ∙ ap phaseOf (other x z)
 
     pub written-durable : Durable S U written
     unfolding first second
@@ -292,7 +302,8 @@ module _ {S : Setting} {T : Tree} {a c : List ℕ} {n : ℕ} (w : Reached S T a 
           };
           stored = λ k i q r o.
               let there = slot-within h k i q in
-              let away : i ≡ onPath p k → ⊥ = λ z. o (shadows (slotOf k i) there ∙ sym (v .listed (slotOf k i) there) ∙ subst (λ (j : ℕ). owner c (slotOf k j) ≡ suc j) (sym z) (held k q)) in
+              let away : i ≡ onPath p k → ⊥ = λ z. o (shadows (slotOf k i) there ∙ sym (v .listed (slotOf k i) there)
+              ∙ subst (λ (j : ℕ). owner c (slotOf k j) ≡ suc j) (sym z) (held k q)) in
               others k i q r (λ z. away (ap second z ∙ sym (path-bottom p) ∙ ap (onPath p) (sym (ap first z))))
               ∙ v .durable .stored k i q r (λ e. o (shadows (slotOf k i) there ∙ e)) ∙ off-path k i away;
           majors = λ q r. page-cases (λ x. major x ≡ 0) q r (λ e. fresh-major S U-small q) (λ e. v .durable .majors q r);
@@ -370,7 +381,8 @@ module _ {S : Setting} {T : Tree} {a c : List ℕ} {n : ℕ} (w : Reached S T a 
         → (s ≡ spot s) ⊎ (s ≡ spot s → ⊥) → content cache-written s ≡ treeNode S U (levelOf s) i
     fresh-written s i q o (inl e) =
         on-path s q e (λ t k. owner c t ≡ suc i → content cache-written t ≡ treeNode S U k i)
-        (λ k r z. let same : onPath p k ≡ i = omega (arith, held k r, z) in u .on k (omega arith) ∙ ap (treeNode S U k) same) (sym (u .own s q) ∙ o)
+        (λ k r z. let same : onPath p k ≡ i = omega (arith, held k r, z) in u .on k (omega arith) ∙ ap (treeNode S U k) same)
+        (sym (u .own s q) ∙ o)
     fresh-written s i q o (inr e) =
         let o' = sym (u .own s q) ∙ o in
         away-slot s q e .0 ∙ v .fresh s i q o' ∙ off-path (levelOf s) i (index-off s i q o' e)
