@@ -303,8 +303,7 @@ module _ {S : Setting} {T : Tree} {a : List ℕ} (m : Durable S T a) where
         told = sum;
         same = refl;
         upto = subst (λ (k : ℕ). Upto k c) (omega arith) u;
-        adds = adds-none
-            (λ t. added (shadowOwner h a t)) s sum;
+        adds = adds-none (λ t. added (shadowOwner h a t)) s sum;
       }
   blocks-from (suc n) s c sum p u = go (λ d t v. blocks-from n (suc s) d t (omega arith) v) (shadowOwner h a s) refl
     where
@@ -317,23 +316,17 @@ module _ {S : Setting} {T : Tree} {a : List ℕ} (m : Durable S T a) where
           record {
             cache = r .cache;
             told = r .told;
-            same = ap after e
-                ∙ r .same;
+            same = ap after e ∙ r .same;
             upto = subst (λ (k : ℕ). Upto k (r .cache)) (omega arith) (r .upto);
-            adds = adds-step
-                (λ t. added (shadowOwner h a t)) s n sum _ (r .told) w (r .adds);
+            adds = adds-step (λ t. added (shadowOwner h a t)) s n sum _ (r .told) w (r .adds);
           }
 
       go : ((d : List ℕ) (t : ℕ) → Upto (suc s) d → BlocksFrom n (suc s) d t) → (o : ℕ) → shadowOwner h a s ≡ o → BlocksFrom (suc n) s c sum
       go others zero e = step (ap (rebuildSlot h a c sum s) e) (owner-none (shadowOwner h a s) sum e) (others c sum (skipped s c e u))
       go others (suc i) e =
           let level : levelOf s ≡ 0 = level-low s (omega arith) in
-          let page : i < pages h = omega (
-            arith,
-            subst (λ (k : ℕ). i < nodes h k) level
-                (listed-node s i (omega arith) e .0),
-            nodes-bottom h,
-          ) in
+          let index : i < nodes h 0 = subst (λ (k : ℕ). i < nodes h k) level (listed-node s i (omega arith) e .0) in
+          let page : i < pages h = omega (arith, index, nodes-bottom h) in
           step (ap (rebuildSlot h a c sum s) e ∙ block-built c sum s i page) (owner-some (shadowOwner h a s) i sum e)
           (others (withSlot c s (suc i) 1 (treeNode S T 0 i)) _
           (filled s i c (treeNode S T 0 i) (omega arith) e (ap (λ (k : ℕ). treeNode S T k i) (sym level)) u))

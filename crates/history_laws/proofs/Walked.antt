@@ -233,8 +233,7 @@ module _ {S : Setting} (T : Tree) {base : List ℕ} (ok : Array S base) where
           same = refl;
           live = w .live;
           rows = λ n s. refl;
-          path = λ k s. absurd
-              (omega arith);
+          path = λ k s. absurd (omega arith);
           above = λ k s. refl;
         }
     levels (suc l) t c x w = joined w (levels l _ _ _ (next w))
