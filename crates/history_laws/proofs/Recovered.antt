@@ -19,8 +19,8 @@ use Rattle.counter.specs.Counter.{major, minors, minor, counterBlock, phaseOf, 
 use Rattle.counter.proofs.Laws.{length-minors, forward-reaches}
 use Rattle.tag.specs.Tag.{nodeTag}
 use Rattle.cache.specs.Cache.{owner, dirty, content, shadowOwner, shadowOwners, withSlot}
-use Rattle.cache.specs.Cache.{badSlot, emptyCache, from, topSlot, holds, current}
-use Rattle.cache.proofs.Laws.{Owned, Formed, not-bad, length-with, owner-same, dirty-same}
+use Rattle.cache.specs.Cache.{badSlot, emptyCache, from, holds, current}
+use Rattle.cache.proofs.Laws.{Owned, owned-same, Formed, not-bad, length-with, owner-same, dirty-same}
 use Rattle.cache.proofs.Laws.{content-same, owner-other, dirty-other, content-other, length-empty, owner-empty}
 use Rattle.cache.proofs.Laws.{dirty-empty, holds-owner, owner-holds, current-cached, current-missing}
 use Rattle.answer.specs.declared.Answer.the-variants.{Done}
@@ -373,17 +373,11 @@ module _ {S : Setting} {T : Tree} {a : List ℕ} (m : Durable S T a) where
   pub formed-after : Formed h cacheAfter
   formed-after =
       record {
-        owners = record {
-          belong = λ s i p e. m .owners .belong s i p (sym (own s p) ∙ e);
-          top = λ z s p. own s p ∙ m .owners .top (sym (own (topSlot h) (slot-within h h 0 (le-refl h))) ∙ z) s p;
-        };
+        owners = owned-same (m .owners) (λ s p. all-slots .listed s p p);
         flag = λ s p. flags s p (owner cacheAfter s) refl;
         clean = all-slots .bare;
       }
     where
-      own : (s : ℕ) → s < slots h → owner cacheAfter s ≡ shadowOwner h a s
-      own s p = all-slots .listed s p p
-
       flags : (s : ℕ) → s < slots h → (o : ℕ) → owner cacheAfter s ≡ o → dirty cacheAfter s ≤ 1
       flags s p zero e = omega (arith, all-slots .bare s p e)
       flags s p (suc i) e = omega (arith, all-slots .full s i p e)

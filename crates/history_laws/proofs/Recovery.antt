@@ -16,7 +16,7 @@ use Rattle.calls.specs.Call.{Module, Called, mediaOf, withMedia}
 use Rattle.calls.specs.Recovery.{total, recoveryRefusal, recoverMedia, recoverJudged, recover}
 use Rattle.calls.specs.Format.{countsFrom}
 use Rattle.calls.specs.History.{Book, storedMinor}
-use Rattle.call_laws.proofs.Judged.{end}
+use Rattle.call_laws.proofs.Judged.{end, opened-on}
 use Rattle.call_laws.proofs.Rebuilt.{recover-kept}
 use Rattle.history_laws.proofs.Setting.{Setting, Tree, treeOf}
 use Rattle.history_laws.proofs.Recovered.{Durable, cacheAfter, all-slots, formed-after, blocks, recovered}
@@ -53,7 +53,7 @@ module _ {S : Setting} {b : Book} {m : Module} (held : Holds S b m) (allowance :
 
   no-refusal : recoveryRefusal keys m ≡ 0
   unfolding recoveryRefusal
-  no-refusal = sym (opens held [] end)
+  no-refusal = sym (opened-on [] (opens held) end)
 
   abbrev xs : List Store
   xs = pendingStores (m .control)

@@ -1,13 +1,11 @@
 -- The history rule: in every allowed list from a done format, a recovery with the same keys is not refused, and one that is done restores
 -- what the book of the list up to it says. Assumes nothing.
 use mathlib.Core.Path.{_≡_, refl, sym, ap, _∙_, subst}
-use mathlib.Core.Bool.{Bool, true, false, not, cond}
+use mathlib.Core.Bool.{Bool, true, false, cond}
 use mathlib.Core.List.{List, _∷_, _++_}
 use mathlib.Core.Option.{Option, none, some}
 use Prim.Native.Nat.{ℕ, zero, suc, _+_, _-_, _*_, _≤_, _<_, zero-le}
 use native.Mathlib.Omega.{arith}
-use borrow.Author.Tests.{lt-leb}
-use lib.Dec.{leb, ltb}
 use lib.ListN.{length}
 use Rattle.memory_map.specs.Map.{pageOf, placeOf, lines}
 use Rattle.memory_map.proofs.Laws.{nodes-bottom, page-inside}
@@ -24,7 +22,7 @@ use Rattle.calls.specs.Recovery.{recover, total}
 use Rattle.calls.specs.Format.{formatRefusal, formatted, format, countsFrom}
 use Rattle.calls.specs.History.{recovers, Book, emptyBook, Allowed, moduleAfter, bookOf, counter}
 use Rattle.calls.specs.History.{storedMinor, NotCut, Gives, Restored, NotRefused, HistoryRule}
-use Rattle.call_laws.proofs.Judged.{on, end, unlike-false, format-accepted}
+use Rattle.call_laws.proofs.Judged.{is-formed, format-accepted}
 use Rattle.history_laws.proofs.Setting.{Setting}
 use Rattle.history_laws.proofs.Tree.{counts-agree, fresh-minor}
 use Rattle.history_laws.proofs.Live.{live-current}
@@ -70,12 +68,10 @@ module _ {S : Setting} {b : Book} {m : Module} (r : Ready S b m) where
       ∙ fresh-minor S (was .keeps .durable .small) (pageOf n) (placeOf n) (omega arith) ∙ ap (b .count) place
 
   opened : (n : ℕ) (out : List ℕ) → n < lines h → length out ≡ 64 → accessRefusal keys n out m ≡ 0
-  unfolding accessRefusal
   opened n out q e =
-      sym (opens v _ (on _ 7 _ (unlike-false e)
-      (on _ 6 _ (ap (λ (d : ℕ). leb (lines d) n) (v .deep) ∙ lt-leb (lines h) n q)
-      (on _ 22 _ (ap (λ (k : ℕ). ltb 0 k) (r .idle))
-      (on _ 23 _ (ap (λ (d : ℕ). not (formed d (m .cache))) (v .deep) ∙ ap not (facts-formed h (m .cache) (r .live .fit .formed))) end)))))
+      sym (is-formed keys n out m
+      (record { opening = opens v; buffer = e; inside = subst (λ (d : ℕ). n < lines d) (sym (v .deep)) q; idle = r .idle })
+      (ap (λ (d : ℕ). formed d (m .cache)) (v .deep) ∙ facts-formed h (m .cache) (r .live .fit .formed)))
 
   module _ (n allowance : ℕ) (out : List ℕ) (q : n < lines h) (e : length out ≡ 64) where
     w : Access S b m n

@@ -1,8 +1,8 @@
 -- What holds of a module wherever it stands in an allowed history: what its media keep once the pending stores are made, and, where no
 -- recovery is awaited, a cache that goes with them. Assumes nothing.
 use mathlib.Core.Path.{_≡_, sym, ap, _∙_, subst}
-use mathlib.Core.Bool.{Bool, true, not}
-use mathlib.Core.List.{List, _++_}
+use mathlib.Core.Bool.{true}
+use mathlib.Core.List.{List}
 use mathlib.Core.Option.{Option, none, some}
 use Prim.Native.Nat.{ℕ, _*_, _<_}
 use lib.ListN.{length}
@@ -15,11 +15,11 @@ use Rattle.control.proofs.Laws.{valid-cells}
 use Rattle.journal.specs.Journal.{Media, storeAll, pendingStores}
 use Rattle.journal.proofs.Laws.{pending-none, store-none}
 use Rattle.journal.proofs.Kept.{Formed}
-use Rattle.calls.specs.Call.{Module, mediaOf, withMedia, judged, openingTests}
+use Rattle.calls.specs.Call.{Module, mediaOf, withMedia}
 use Rattle.calls.specs.Recovery.{total}
 use Rattle.calls.specs.Format.{countsFrom}
 use Rattle.calls.specs.History.{Book}
-use Rattle.call_laws.proofs.Judged.{on, unlike-false}
+use Rattle.call_laws.proofs.Judged.{Opened}
 use Rattle.call_laws.proofs.Kept.{Bytes}
 use Rattle.history_laws.proofs.Setting.{Setting, Tree, treeOf, treeRoot}
 use Rattle.history_laws.proofs.Recovered.{Durable}
@@ -94,11 +94,17 @@ module _ {S : Setting} {b : Book} where
       }
 
   -- the tests that come first in every call pass
-  pub opens : {m : Module} → Holds S b m → (xs : List (Bool × ℕ)) → 0 ≡ judged xs → 0 ≡ judged (openingTests (S .keys) m ++ xs)
-  opens held xs e =
-      on _ 2 _ (unlike-false (S .k48)) (on _ 3 _ (unlike-false (held .formed .control-length)) (on _ 21 _ (ap not (held .right))
-      (on _ 4 _ (unlike-false (held .formed .array-length ∙ ap arrayLength (sym (held .deep))))
-      (on _ 5 _ (unlike-false (held .sized ∙ ap cacheLength (sym (held .deep)))) e))))
+  pub opens : {m : Module} → Holds S b m → Opened (S .keys) m
+  opens held =
+      record {
+        keys48 = S .k48;
+        record664 = held .formed .control-length;
+        right = held .right;
+        fits = record {
+          array = held .formed .array-length ∙ ap arrayLength (sym (held .deep));
+          cache = held .sized ∙ ap cacheLength (sym (held .deep));
+        };
+      }
 
   pub all-bytes : {m : Module} → Holds S b m → Bytes m
   all-bytes held = record { array = held .formed .array-bytes; control = held .formed .control-bytes; cache = held .plain }

@@ -22,6 +22,7 @@ use Rattle.slot_map.specs.Slots.{slotOf, levelOf, belongs}
 use Rattle.slot_map.proofs.Laws.{slot-within, level-slot, node-belongs}
 use Rattle.counter.specs.Counter.{major, minor, phaseOf}
 use Rattle.cache.specs.Cache.{cellContent, shadowOwner, topSlot}
+use Rattle.cache.proofs.Laws.{owned-same}
 use Rattle.calls.specs.Recovery.{phaseByte}
 use Rattle.call_laws.proofs.Fresh.{fresh-length}
 use Rattle.history_laws.proofs.Setting.{Setting, Tree, treeNode, nodeIn}
@@ -224,10 +225,7 @@ module _ {S : Setting} {T : Tree} {a : List ℕ} (m : Durable S T a) where
         record {
           whole = length-after w ∙ m .whole;
           small = m .small;
-          owners = record {
-            belong = λ s j p e. m .owners .belong s j p (sym (shadow-kept s p) ∙ e);
-            top = λ z s p. shadow-kept s p ∙ m .owners .top (sym (shadow-kept (topSlot h) (slot-within h h 0 (le-refl h))) ∙ z) s p;
-          };
+          owners = owned-same (m .owners) shadow-kept;
           stored = λ k j p q o. stored k j p q o (eq-or-not (shadowOwner h a (slotOf k j)) (suc j));
           majors = λ p q. node-cases (λ b. major b ≡ 0) 0 p zero-le (page-in p q) (fresh-major S (m .small) p) (m .majors p q);
           behind = λ p j q r. node-cases (λ b. minor b j ≤ count (64 * p + j)) 0 p zero-le (page-in p q)

@@ -26,8 +26,8 @@ use Rattle.pad.proofs.Xor.{length-xor}
 use Rattle.pad.proofs.Nonce.{length-pad}
 use Rattle.tag.specs.Tag.{nodeTag, dataTag}
 use Rattle.control.specs.Control.{Cell}
-use Rattle.cache.specs.Cache.{owner, dirty, content, shadowOwner, cellContent, topSlot}
-use Rattle.cache.proofs.Laws.{slot-holds}
+use Rattle.cache.specs.Cache.{owner, dirty, content, shadowOwner, cellContent}
+use Rattle.cache.proofs.Laws.{owned-same, slot-holds}
 use Rattle.journal.proofs.Again.{put-cells}
 use Rattle.calls.specs.Read.{sideBytes, pageBlock, lineMinor}
 use Rattle.calls.specs.Write.{newBlock}
@@ -296,10 +296,7 @@ module _ {S : Setting} {T : Tree} {a c : List ℕ} {n : ℕ} (w : Reached S T a 
         record {
           whole = length-after its-cell ∙ b .whole;
           small = U-small;
-          owners = record {
-            belong = λ s i q e. v .durable .owners .belong s i q (sym (shadows s q) ∙ e);
-            top = λ z s q. shadows s q ∙ v .durable .owners .top (sym (shadows (topSlot h) (slot-within h h 0 (le-refl h))) ∙ z) s q;
-          };
+          owners = owned-same (v .durable .owners) shadows;
           stored = λ k i q r o.
               let there = slot-within h k i q in
               let away : i ≡ onPath p k → ⊥ = λ z. o (shadows (slotOf k i) there ∙ sym (v .listed (slotOf k i) there)
@@ -367,10 +364,7 @@ module _ {S : Setting} {T : Tree} {a c : List ℕ} {n : ℕ} (w : Reached S T a 
         record {
           sized = u .sized;
           formed = record {
-            owners = record {
-              belong = λ s i q e. v .fit .formed .owners .belong s i q (sym (u .own s q) ∙ e);
-              top = λ z s q. u .own s q ∙ v .fit .formed .owners .top (sym (u .own (topSlot h) (slot-within h h 0 (le-refl h))) ∙ z) s q;
-            };
+            owners = owned-same (v .fit .formed .owners) (u .own);
             flag = λ s q. flags s q (eq-or-not s (spot s));
             clean = λ s q o. cleans s q o (eq-or-not s (spot s));
           };
