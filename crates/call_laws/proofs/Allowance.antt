@@ -19,7 +19,7 @@ use Rattle.cache.specs.declared.Found.{Found}
 use Rattle.cache.specs.declared.Found.the-variants.{Nothing, At}
 use Rattle.cache.specs.Cache.{shadowOwners, current, badSlot, emptyCache}
 use Rattle.tag.specs.Tag.{nodeTag}
-use Rattle.journal.specs.Journal.{Store, storeAll, made, pendingStores, batchStores}
+use Rattle.journal.specs.Journal.{Store, storeAll, pendingStores, batchStores}
 use Rattle.journal.proofs.Laws.{made-all, less-cut, cut-made}
 use Rattle.calls.specs.Path.{Loaded, loaded, differs}
 use Rattle.calls.specs.Call.{Module, Called, mediaOf, withMedia, refuse, storing, accessRefusal, pathOf}
@@ -191,24 +191,23 @@ module _ (keys : List ℕ) (k : ℕ) (m : Module) where
   tells-media = tells-shadow (shadowOwners (depth (m .control)) (m .array)) (badSlot (depth (m .control)) (shadowOwners (depth (m .control)) (m .array)))
 
 module _ (keys : List ℕ) (m : Module) where
-  -- the media with the first pending stores that an allowance makes
-  pendingMade : ℕ → Module
-  pendingMade a = withMedia (storeAll (mediaOf m) (made a (pendingStores (m .control)))) (m .cache)
+  abbrev xs : List Store
+  xs = pendingStores (m .control)
 
-  recover-cut : (a : ℕ) → a < length (pendingStores (m .control)) → (recoverJudged 0 keys a m) .answer ≡ Cut a
+  recover-cut : (a : ℕ) → a < length xs → (recoverJudged 0 keys a m) .answer ≡ Cut a
   unfolding recoverJudged
-  recover-cut a h = rw (less-cut a (pendingStores (m .control)) h, cut-made a (pendingStores (m .control)) h)
+  recover-cut a h = rw (less-cut a xs h, cut-made a xs h)
 
-  recover-full : (a : ℕ) → length (pendingStores (m .control)) ≤ a
-      → recoverJudged 0 keys a m ≡ recoverMedia keys (length (pendingStores (m .control))) (withMedia (storeAll (mediaOf m) (pendingStores (m .control))) (m .cache))
+  recover-full : (a : ℕ) → length xs ≤ a
+      → recoverJudged 0 keys a m ≡ recoverMedia keys (length xs) (withMedia (storeAll (mediaOf m) xs) (m .cache))
   unfolding recoverJudged
-  recover-full a h = rw (le-ltb a (length (pendingStores (m .control))) h, made-all a (pendingStores (m .control)) h)
+  recover-full a h = rw (le-ltb a (length xs) h, made-all a xs h)
 
   recover-judged : (n : ℕ) → Limited (λ a. recoverJudged n keys a m)
   unfolding recoverJudged
   recover-judged zero =
-      let n = length (pendingStores (m .control)) in
-      let d = withMedia (storeAll (mediaOf m) (pendingStores (m .control))) (m .cache) in
+      let n = length xs in
+      let d = withMedia (storeAll (mediaOf m) xs) (m .cache) in
       limited (λ a. recoverJudged 0 keys a m) n (recoverMedia keys n d)
       (record { less = recover-cut; rest = recover-full; all = (tells-media keys n d) .stores; not = (tells-media keys n d) .not })
   recover-judged (suc n) = refused-limited m (suc n) 0 0

@@ -22,7 +22,7 @@ use Rattle.cache.specs.Cache.{owner, dirty, content, cellContent, holds}
 use Rattle.cache.proofs.Laws.{Formed, dirty-owner, owner-holds}
 use Rattle.journal.specs.Journal.{media, storeAll, made, batchStores}
 use Rattle.journal.proofs.Each.{Each, none, more, each-append, each-take}
-use Rattle.journal.proofs.Kept.{Within, within-batch, avoids-batch, stores-apart, made-kept, Formed as Media·Formed}
+use Rattle.journal.proofs.Kept.{Within, within-batch, avoids-batch, stores-apart, Formed as Media·Formed}
 use Rattle.calls.specs.Path.{nodeCell, shadowCell, evicted}
 use Rattle.call_laws.specs.Walk.{nodeCells, pathCells, withPath}
 use Rattle.call_laws.proofs.Loads.{Fit, cells-sound, path-few}
@@ -84,9 +84,6 @@ module _ (h : ℕ) (low : 1 ≤ h) (high : h ≤ 3) (a k c : List ℕ) (whole : 
   within =
       let sound = cells-sound h c fit p page (suc h) (le-refl (suc h)) in
       rw (array-cells h (length a) whole) (within-batch (cells h) r (wholes h high sound) (in-map h sound) (omega (arith, path-few h c fit p page low)))
-
-  pub after-length : length after ≡ length a
-  after-length = made-kept allowance formed within .array-length
 
   kept : (y : Item) → InMap h y → ((s : ℕ) → shadow s ≡ y → ⊥)
       → ((l : ℕ) → l ≤ h → holds c l (onPath p l) ≡ false → dirty c (slotOf l (onPath p l)) ≡ 1 → node l (owner c (slotOf l (onPath p l)) - 1) ≡ y → ⊥)

@@ -103,10 +103,7 @@ pub record Entered (keys : List ℕ) (line : ℕ) (b : List ℕ) (m : Module) : 
 
 -- and 23
 pub record Accepted (keys : List ℕ) (line : ℕ) (b : List ℕ) (m : Module) : Type 0 where
-  pub opening : Opened keys m
-  pub buffer : length b ≡ 64
-  pub inside : line < lines (depth (m .control))
-  pub idle : count (m .control) ≡ 0
+  pub entry : Entered keys line b m
   pub shaped : formed (depth (m .control)) (m .cache) ≡ true
 
 module _ (keys : List ℕ) (line : ℕ) (b : List ℕ) (m : Module) where
@@ -134,13 +131,7 @@ module _ (keys : List ℕ) (line : ℕ) (b : List ℕ) (m : Module) where
   access-accepted e =
       let p = entered _ e in
       let q = passed (not (formed (depth (m .control)) (m .cache))) 22 [] (p .1) in
-      record {
-        opening = p .0 .opening;
-        buffer = p .0 .buffer;
-        inside = p .0 .inside;
-        idle = p .0 .idle;
-        shaped = not-false _ (q .test);
-      }
+      record { entry = p .0; shaped = not-false _ (q .test) }
 
   -- a refusal before 23
   pub entry-refused : {n : ℕ} → n ≡ entryRefusal keys line b m → (n ≡ 0 → ⊥) → n ≡ accessRefusal keys line b m

@@ -250,9 +250,6 @@ module _ (h : ℕ) (high : h ≤ 3) (keys a : List ℕ) (whole : length a ≡ ar
     pub path-content : (l : ℕ) → l ≤ h → content (withPath h a p (suc h) c) (slotOf l (onPath p l)) ≡ current h a c l (onPath p l)
     path-content l q = path-in (suc h) c (le-refl (suc h)) (like-self size) l (omega arith)
 
-    pub path-length : length (withPath h a p (suc h) c) ≡ cacheLength h
-    path-length = path-other (suc h) c (le-refl (suc h)) size (suc h) 0 (le-refl (suc h)) .0
-
     -- another array that has the same missing nodes gives the same cache
     module _ (b : List ℕ) (same : (l : ℕ) → l ≤ h → holds c l (onPath p l) ≡ false → storedNode h b p l ≡ stored l) where
       node-same : (l : ℕ) → l ≤ h → (d : List ℕ) → Like (suc l) d → withNode h b d l (onPath p l) ≡ withNode h a d l (onPath p l)

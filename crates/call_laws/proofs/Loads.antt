@@ -228,21 +228,21 @@ module _ (h : ℕ) (high : h ≤ 3) (a : List ℕ) (whole : length a ≡ arrayLe
 
 -- ---- the whole path
 
+pub record Loads (h : ℕ) (d : List ℕ) (y : List Cell) : Type 0 where
+  pub fit : Fit h d
+  pub sound : Each (Sound h) y
+  pub few : length y ≤ 2 * h
+
+unfoldable pub LoadsIf : ℕ → Loaded → Type 0
+LoadsIf h (differs k j) = Unit {0}
+LoadsIf h (loaded d y) = Loads h d y
+
 module _ (h : ℕ) (low : 1 ≤ h) (high : h ≤ 3) (keys a : List ℕ) (whole : length a ≡ arrayLength h) (plain : Below 256 a) (p : ℕ) (page : p < pages h) where
-  pub record Loads (d : List ℕ) (y : List Cell) : Type 0 where
-    pub fit : Fit h d
-    pub sound : Each (Sound h) y
-    pub few : length y ≤ 2 * h
-
-  unfoldable pub LoadsIf : Loaded → Type 0
-  LoadsIf (differs k j) = Unit {0}
-  LoadsIf (loaded d y) = Loads d y
-
-  pub path-loads : (r : ℕ) (c : List ℕ) → Fit h c → LoadsIf (loadPath h keys a r p c)
+  pub path-loads : (r : ℕ) (c : List ℕ) → Fit h c → LoadsIf h (loadPath h keys a r p c)
   unfolding LoadsIf
   path-loads r c fit = rw (load-path h high keys a whole r p page c (fit .sized)) (go (firstWrong h keys a c r p (suc h)))
     where
-      go : (o : Option ℕ) → LoadsIf (outcome p o (withPath h a p (suc h) c) (pathCells h c p (suc h)))
+      go : (o : Option ℕ) → LoadsIf h (outcome p o (withPath h a p (suc h) c) (pathCells h c p (suc h)))
       go nothing =
           record {
             fit = path-fit h high a whole plain p page (suc h) c (le-refl (suc h)) fit (λ e. refl);

@@ -1,5 +1,5 @@
 -- A batch of sound cells that is staged as far as an allowance goes, and run: its stores. Assumes nothing.
-use mathlib.Core.Path.{_≡_, ap, ap₂, _∙_, subst₂}
+use mathlib.Core.Path.{_≡_, ap₂, _∙_, subst₂}
 use mathlib.Core.Bool.{Bool, true}
 use mathlib.Core.List.{List}
 use Prim.Native.Nat.{ℕ, _/_, _≤_, _<_}

@@ -1,13 +1,13 @@
 -- Stores made under an allowance, as the calls answer them: cut, or done with what the call leaves in the cache. Assumes nothing.
 use mathlib.Core.Path.{_≡_, refl, sym, ap, ap₂, _∙_}
-use mathlib.Core.Bool.{Bool, true, false, cond, false≢true}
+use mathlib.Core.Bool.{Bool, true, false, cond}
 use mathlib.Core.List.{List}
 use Prim.Native.Nat.{ℕ, min, _≤_, _<_}
 use native.Mathlib.Omega.{arith}
 use borrow.Author.Tests.{le-ltb}
 use lib.ListN.{length, length-take}
 use Rattle.answer.specs.declared.Answer.{Answer}
-use Rattle.answer.specs.declared.Answer.the-variants.{Done, Blank, Cut, Refused}
+use Rattle.answer.specs.declared.Answer.the-variants.{Done, Cut}
 use Rattle.journal.specs.Journal.{Store, Media, media, storeAll, made, isCut, Stored}
 use Rattle.journal.proofs.Laws.{less-cut}
 use Rattle.calls.specs.Call.{Module, Called, mediaOf, withMedia, ended, storing}

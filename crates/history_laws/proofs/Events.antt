@@ -73,7 +73,7 @@ module _ (S : Setting) where
   module _ {b : Book} {m : Module} (r : Ready S b m) where
     open-line : (n : ℕ) (buffer : List ℕ) → accessRefusal keys n buffer m ≡ 0 → Access S b m n
     open-line n buffer e =
-        record { ready = r; inside = subst (λ (d : ℕ). n < lines d) (r .holds .deep) (access-accepted keys n buffer m e .inside) }
+        record { ready = r; inside = subst (λ (d : ℕ). n < lines d) (r .holds .deep) (access-accepted keys n buffer m e .entry .inside) }
 
     module _ (n allowance : ℕ) (out : List ℕ) where
       read-stored : (w : Access S b m n) (answer : Answer) (t : List ℕ)
@@ -152,7 +152,7 @@ module _ (S : Setting) where
 
         module _ (room : b .count n < 127) where
           t : Writable w text
-          t = record { room = room; full = access-accepted keys n text m open-now .buffer; plain = plain; open-now = open-now }
+          t = record { room = room; full = access-accepted keys n text m open-now .entry .buffer; plain = plain; open-now = open-now }
 
           abbrev xs : List Store
           xs = batchStores (cells w t) (root-new w t)

@@ -63,10 +63,10 @@ module _ {S : Setting} {b : Book} {m : Module} {n : ℕ} (w : Access S b m n) wh
   pub path-is : pathOf keys n m ≡ loaded (walk .cache) (walk .cells)
   path-is = ap₂ (λ (d r : ℕ). loadPath d keys (m .array) r (pageOf n) (m .cache)) (held .deep) (was .top) ∙ walk .same
 
-  pub loads : Loads h low high keys (m .array) (whole .whole) (whole .plain) (pageOf n) page (walk .cache) (walk .cells)
+  pub loads : Loads h (walk .cache) (walk .cells)
   unfolding LoadsIf
   loads =
-      subst (LoadsIf h low high keys (m .array) (whole .whole) (whole .plain) (pageOf n) page) (walk .same)
+      subst (LoadsIf h) (walk .same)
       (path-loads h low high keys (m .array) (whole .whole) (whole .plain) (pageOf n) page (treeRoot S (treeOf b)) (m .cache)
       (ready .live .fit))
 

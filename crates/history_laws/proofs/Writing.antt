@@ -19,7 +19,7 @@ use Rattle.pad.specs.Pad.{pad, xorBytes}
 use Rattle.tag.proofs.Tags.{nodeTag-lt}
 use Rattle.answer.specs.declared.Answer.{Answer}
 use Rattle.answer.specs.declared.Answer.the-variants.{Done}
-use Rattle.control.specs.Control.{Cell, depth, root}
+use Rattle.control.specs.Control.{Cell, root}
 use Rattle.control.proofs.Laws.{root-at}
 use Rattle.journal.specs.Journal.{Store, Media, storeAll, batchStores}
 use Rattle.journal.proofs.Each.{Each}
@@ -33,8 +33,8 @@ use Rattle.calls.specs.Recovery.{total}
 use Rattle.calls.specs.Format.{countsFrom}
 use Rattle.calls.specs.Path.{nodeCell, renewPath, renewedRoot}
 use Rattle.calls.specs.History.{Book, entered}
-use Rattle.call_laws.proofs.Judged.{Accepted, access-accepted}
-use Rattle.call_laws.proofs.Kept.{batch-sound, batch-bound}
+use Rattle.call_laws.proofs.Judged.{access-accepted}
+use Rattle.call_laws.proofs.Kept.{Given, batch-sound, batch-bound}
 use Rattle.call_laws.proofs.Loads.{Sound}
 use Rattle.call_laws.proofs.Fresh.{fresh-bytes}
 use Rattle.history_laws.proofs.Setting.{Setting, Tree, treeOf, raised, treeNode, treeRoot}
@@ -225,24 +225,20 @@ module _ {S : Setting} {b : Book} {m : Module} {n : ℕ} (w : Access S b m n) wh
     root-is : root-new ≡ treeRoot S U
     root-is = new-root (reached w)
 
-    accepted : Accepted keys n text m
-    accepted = access-accepted keys n text m (t .open-now)
+    given : Given keys n text m
+    given = record { bytes = all-bytes held; plain = t .plain; ok = access-accepted keys n text m (t .open-now) }
 
     sound-new : Each (Sound h) cells
     sound-new =
         subst (λ (d : ℕ). Each (Sound d) (writeBatch d keys n text c x)) (held .deep)
-        (batch-sound keys n text m (all-bytes held) (t .plain) accepted c x
-        (subst (λ (d : ℕ). Each (Sound d) x) (sym (held .deep)) (loads w .sound)))
+        (batch-sound given c x (subst (λ (d : ℕ). Each (Sound d) x) (sym (held .deep)) (loads w .sound)))
 
     pub few-new : length cells ≤ 8
     few-new =
-        omega (
-          arith,
-          held .deep,
-          S .high,
-          subst (λ (d : ℕ). length (writeBatch d keys n text c x) ≤ 2 * depth (m .control) + 2) (held .deep)
-              (batch-bound keys n text m (all-bytes held) (t .plain) accepted c x (omega (arith, held .deep, loads w .few))),
-        )
+        let bound : length cells ≤ 2 * h + 2 =
+        subst (λ (d : ℕ). length (writeBatch d keys n text c x) ≤ 2 * d + 2) (held .deep)
+        (batch-bound given c x (omega (arith, held .deep, loads w .few))) in
+        omega (arith, S .high, bound)
 
     pub some-new : 0 < length cells
     unfolding writeBatch
