@@ -33,7 +33,8 @@ use Rattle.call_laws.proofs.Kept.{wholes, in-map, array-cells}
 
 module _ (h : ℕ) (c : List ℕ) (f : Formed h c) (p : ℕ) (page : p < pages h) (y : Item) (there : InMap h y)
     (no-shadow : (s : ℕ) → shadow s ≡ y → ⊥)
-    (no-owner : (l : ℕ) → l ≤ h → holds c l (onPath p l) ≡ false → dirty c (slotOf l (onPath p l)) ≡ 1 → node l (owner c (slotOf l (onPath p l)) - 1) ≡ y → ⊥) where
+    (no-owner : (l : ℕ) → l ≤ h → holds c l (onPath p l) ≡ false → dirty c (slotOf l (onPath p l)) ≡ 1
+    → node l (owner c (slotOf l (onPath p l)) - 1) ≡ y → ⊥) where
   abbrev Other : Cell → Type 0
   Other x = x .number ≡ cellOf h y → ⊥
 
@@ -51,7 +52,8 @@ module _ (h : ℕ) (c : List ℕ) (f : Formed h c) (p : ℕ) (page : p < pages h
       last = more {x = shadowCell h (slotOf l i) (suc i)} (other (shadow (slotOf l i)) (slot-within h l i q) (no-shadow (slotOf l i))) none
 
       go : (t : Bool) → holds c l i ≡ t → (u : Bool) → eqb (dirty c (slotOf l i)) 1 ≡ u
-          → Each Other (cond t [] (cond u (nodeCell h l (owner c (slotOf l i) - 1) (content c (slotOf l i)) ∷ []) [] ++ (shadowCell h (slotOf l i) (suc i) ∷ [])))
+          → Each Other (cond t [] (cond u (nodeCell h l (owner c (slotOf l i) - 1) (content c (slotOf l i)) ∷ []) []
+          ++ (shadowCell h (slotOf l i) (suc i) ∷ [])))
       go true e u d = none
       go false e true d =
           let one = eqb-true (dirty c (slotOf l i)) 1 d in
@@ -83,10 +85,12 @@ module _ (h : ℕ) (low : 1 ≤ h) (high : h ≤ 3) (a k c : List ℕ) (whole : 
   within : Each (Within (length a / 72)) (batchStores (pathCells h c p (suc h)) r)
   within =
       let sound = cells-sound h c fit p page (suc h) (le-refl (suc h)) in
-      rw (array-cells h (length a) whole) (within-batch (cells h) r (wholes h high sound) (in-map h sound) (omega (arith, path-few h c fit p page low)))
+      rw (array-cells h (length a) whole)
+      (within-batch (cells h) r (wholes h high sound) (in-map h sound) (omega (arith, path-few h c fit p page low)))
 
   kept : (y : Item) → InMap h y → ((s : ℕ) → shadow s ≡ y → ⊥)
-      → ((l : ℕ) → l ≤ h → holds c l (onPath p l) ≡ false → dirty c (slotOf l (onPath p l)) ≡ 1 → node l (owner c (slotOf l (onPath p l)) - 1) ≡ y → ⊥)
+      → ((l : ℕ) → l ≤ h → holds c l (onPath p l) ≡ false → dirty c (slotOf l (onPath p l)) ≡ 1
+      → node l (owner c (slotOf l (onPath p l)) - 1) ≡ y → ⊥)
       → part after (72 * cellOf h y) 72 ≡ part a (72 * cellOf h y) 72
   kept y m s o =
       stores-apart (cellOf h y) formed (each-take allowance within)
@@ -101,13 +105,16 @@ module _ (h : ℕ) (low : 1 ≤ h) (high : h ≤ 3) (a k c : List ℕ) (whole : 
   unfolding cellContent
   line-content n q = front after n ∙ ap (take 64) (line-kept n q) ∙ sym (front a n)
 
-  node-kept : (l : ℕ) → l ≤ h → holds c l (onPath p l) ≡ false → cellContent after (cellOf h (node l (onPath p l))) ≡ cellContent a (cellOf h (node l (onPath p l)))
+  node-kept : (l : ℕ) → l ≤ h → holds c l (onPath p l) ≡ false
+      → cellContent after (cellOf h (node l (onPath p l))) ≡ cellContent a (cellOf h (node l (onPath p l)))
   unfolding cellContent
   node-kept l q e =
       let n = cellOf h (node l (onPath p l)) in
-      front after n ∙ ap (take 64) (kept (node l (onPath p l)) (path-node h p l page q) (λ s z. let w : _≡_ {A = ℕ} 0 1 = cc in omega arith) own) ∙ sym (front a n)
+      front after n ∙ ap (take 64) (kept (node l (onPath p l)) (path-node h p l page q)
+      (λ s z. let w : _≡_ {A = ℕ} 0 1 = cc in omega arith) own) ∙ sym (front a n)
     where
-      own : (j : ℕ) → j ≤ h → holds c j (onPath p j) ≡ false → dirty c (slotOf j (onPath p j)) ≡ 1 → node j (owner c (slotOf j (onPath p j)) - 1) ≡ node l (onPath p l) → ⊥
+      own : (j : ℕ) → j ≤ h → holds c j (onPath p j) ≡ false → dirty c (slotOf j (onPath p j)) ≡ 1
+          → node j (owner c (slotOf j (onPath p j)) - 1) ≡ node l (onPath p l) → ⊥
       own j b f d z =
           let level : j ≡ l = cc in
           let index : owner c (slotOf j (onPath p j)) - 1 ≡ onPath p l = cc in

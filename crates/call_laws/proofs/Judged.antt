@@ -89,7 +89,8 @@ unfolding recoveryRefusal
 recovery-opened keys m e = opened keys m [] e .0
 
 -- where the first tests pass, the others judge
-pub opened-on : {keys : List ℕ} {m : Module} (ys : List (Bool × ℕ)) {r : ℕ} → Opened keys m → r ≡ judged ys → r ≡ judged (openingTests keys m ++ ys)
+pub opened-on : {keys : List ℕ} {m : Module} (ys : List (Bool × ℕ)) {r : ℕ} → Opened keys m → r ≡ judged ys
+    → r ≡ judged (openingTests keys m ++ ys)
 opened-on ys o e =
     on _ _ _ (unlike-false (o .keys48)) (on _ _ _ (unlike-false (o .record664)) (on _ _ _ (ap not (o .right))
     (on _ _ _ (unlike-false (o .fits .array)) (on _ _ _ (unlike-false (o .fits .cache)) e))))

@@ -33,8 +33,10 @@ use Rattle.pad.specs.Pad.{pad, xorBytes}
 use Rattle.pad.proofs.Nonce.{length-pad, below-pad}
 use Rattle.pad.proofs.Xor.{length-xor, below-xor}
 use Rattle.calls.specs.Call.{Module, Called, mediaOf, withMedia, refuse, storing, pathOf, accessRefusal}
-use Rattle.calls.specs.Read.{Reading, answered, pageBlock, lineMinor, refusedRead, sideBytes, sideOk, lineText, readLoaded, readPath, readJudged, read}
-use Rattle.calls.specs.Write.{newMinor, newBlock, stopLoss, dataCell, writeBatch, writeStores, writtenCache, writeLoaded, writePath, writeJudged, write}
+use Rattle.calls.specs.Read.{Reading, answered, pageBlock, lineMinor, refusedRead, sideBytes}
+use Rattle.calls.specs.Read.{sideOk, lineText, readLoaded, readPath, readJudged, read}
+use Rattle.calls.specs.Write.{newMinor, newBlock, stopLoss, dataCell, writeBatch, writeStores}
+use Rattle.calls.specs.Write.{writtenCache, writeLoaded, writePath, writeJudged, write}
 use Rattle.call_laws.proofs.Judged.{Opened, Accepted, access-accepted, head-of}
 use Rattle.call_laws.proofs.Loads.{Sound, Fit, Loads, LoadsIf, path-loads, sound-node, zeros-bytes}
 
@@ -267,7 +269,8 @@ module _ {keys : List ℕ} {n : ℕ} {buffer : List ℕ} {m : Module} (g : Given
         flag true = lit< tt
         flag false = lit< tt
 
-        go : (t : Bool) → Kept m ((cond {A = Called} t (refuse m 26 0 0) (storing a m xs (Done (length xs) 0) (writtenCache h keys n c))) .after)
+        go : (t : Bool)
+            → Kept m ((cond {A = Called} t (refuse m 26 0 0) (storing a m xs (Done (length xs) 0) (writtenCache h keys n c))) .after)
         go true = kept-same m bytes
         go false =
             storing-kept buffers a xs _ (writtenCache h keys n c)
@@ -311,7 +314,8 @@ module _ {keys : List ℕ} {n : ℕ} {buffer : List ℕ} {m : Module} (g : Given
   unfolding lineText InMap cellOf
   text-size c =
       let whole = cell-length h (m .array) (line n) (opening .fits .array) (ok .entry .inside) in
-      length-xor (cellContent (m .array) n) (pad keys n (major (pageBlock c n)) (lineMinor c n)) (rw (length-pad, whole) (le-refl 64)) ∙ whole
+      length-xor (cellContent (m .array) n) (pad keys n (major (pageBlock c n)) (lineMinor c n)) (rw (length-pad, whole) (le-refl 64))
+      ∙ whole
 
   text-bytes : (c : List ℕ) → Below 256 (lineText keys (m .array) c n)
   unfolding lineText

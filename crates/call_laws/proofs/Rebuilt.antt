@@ -27,7 +27,9 @@ use Rattle.journal.proofs.Each.{Each, each-take}
 use Rattle.journal.proofs.Kept.{Within, within-pending, stores-front}
 use Rattle.answer.specs.declared.Answer.the-variants.{Done, Cut, Refused}
 use Rattle.calls.specs.Call.{Module, Called, mediaOf, withMedia}
-use Rattle.calls.specs.Recovery.{forwardFrom, total, Rebuilt, rebuilt, damaged, rebuildBlock, rebuildSlot, rebuildBlocks, rebuildNode, rebuildNodes, recoverRoot, recoverRebuilt, recoverShadow, recoverMedia, recoverJudged, recover, recoveryRefusal}
+use Rattle.calls.specs.Recovery.{forwardFrom, total, Rebuilt, rebuilt, damaged, rebuildBlock}
+use Rattle.calls.specs.Recovery.{rebuildSlot, rebuildBlocks, rebuildNode, rebuildNodes, recoverRoot, recoverRebuilt}
+use Rattle.calls.specs.Recovery.{recoverShadow, recoverMedia, recoverJudged, recover, recoveryRefusal}
 use Rattle.call_laws.proofs.Judged.{Opened, recovery-opened, head-of}
 use Rattle.call_laws.proofs.Tags.{tags-length, tags-bytes}
 use Rattle.call_laws.proofs.Kept.{Bytes, Kept, kept-same, Buffers, after-stores, media-formed, array-cells}
@@ -54,13 +56,16 @@ PlainIf h damaged = Unit {0}
 PlainIf h (rebuilt c t) = Plain h c
 
 module _ (h : ℕ) (a : List ℕ) where
+  abbrev block : ℕ → List ℕ
+  block p = cellContent a (cellOf h (node 0 p))
+
   block-plain : (c : List ℕ) (sum s p : ℕ) → s < slots h → Plain h c → PlainIf h (rebuildBlock h a c sum s p)
   unfolding rebuildBlock PlainIf
-  block-plain c sum s p within plain = go (forwardFrom a (64 * p) (minors (cellContent a (cellOf h (node 0 p)))))
+  block-plain c sum s p within plain = go (forwardFrom a (64 * p) (minors (block p)))
     where
       go : (r : Option (List ℕ)) → PlainIf h (elim r as (λ z. Rebuilt) [
         | none ↦ damaged
-        | some ms ↦ rebuilt (withSlot c s (suc p) 1 (counterBlock (major (cellContent a (cellOf h (node 0 p)))) ms)) (sum + (total ms - total (minors (cellContent a (cellOf h (node 0 p))))))
+        | some ms ↦ rebuilt (withSlot c s (suc p) 1 (counterBlock (major (block p)) ms)) (sum + (total ms - total (minors (block p))))
       ])
       go none = tt
       go (some ms) = with-plain h s (suc p) 1 _ c within (lit< tt) (length-counterBlock _ ms) (below-counterBlock _ ms) plain
@@ -74,7 +79,8 @@ module _ (h : ℕ) (a : List ℕ) where
   unfolding rebuildBlocks PlainIf
   blocks-plain s [] c sum few plain = plain
   blocks-plain s (o ∷ os) c sum few plain =
-      next s os (omega arith) (λ d t p. blocks-plain (suc s) os d t (omega arith) p) (rebuildSlot h a c sum s o) (slot-plain c sum s o (omega arith) plain)
+      next s os (omega arith) (λ d t p. blocks-plain (suc s) os d t (omega arith) p) (rebuildSlot h a c sum s o)
+      (slot-plain c sum s o (omega arith) plain)
     where
       next : (s : ℕ) (os : List ℕ) → suc s + length os ≤ slots h
           → ((d : List ℕ) (t : ℕ) → Plain h d → PlainIf h (rebuildBlocks h a (suc s) os d t)) → (r : Rebuilt) → PlainIf h r
@@ -103,8 +109,10 @@ from-length f s zero = refl
 from-length f s (suc n) = ap suc (from-length f (suc s) n)
 
 -- a module whose cache is rebuilt
-rebuilt-kept : (m : Module) (c : List ℕ) → Bytes m → length c ≡ length (m .cache) → Below 256 c → Kept m (record { array = m .array; control = m .control; cache = c })
-rebuilt-kept m c b e p = record { array = refl; control = refl; cache = e; bytes = record { array = b .array; control = b .control; cache = p } }
+rebuilt-kept : (m : Module) (c : List ℕ) → Bytes m → length c ≡ length (m .cache) → Below 256 c
+    → Kept m (record { array = m .array; control = m .control; cache = c })
+rebuilt-kept m c b e p =
+    record { array = refl; control = refl; cache = e; bytes = record { array = b .array; control = b .control; cache = p } }
 
 module _ (keys : List ℕ) (k : ℕ) (m : Module) (b : Bytes m) (sized : length (m .cache) ≡ cacheLength (depth (m .control))) where
   abbrev h : ℕ
@@ -114,8 +122,10 @@ module _ (keys : List ℕ) (k : ℕ) (m : Module) (b : Bytes m) (sized : length 
   unfolding recoverRoot
   root-kept sum c p = go (eqb (nodeTag keys (current h (m .array) c h 0) h 0) (root (m .control)))
     where
-      go : (t : Bool) → Kept m ((cond {A = Called} t (record { answer = Done k sum; after = record { array = m .array; control = m .control; cache = c } })
-          (record { answer = Refused 29 k 0 0; after = m })) .after)
+      done : Called
+      done = record { answer = Done k sum; after = record { array = m .array; control = m .control; cache = c } }
+
+      go : (t : Bool) → Kept m ((cond {A = Called} t done (record { answer = Refused 29 k 0 0; after = m })) .after)
       go true = rebuilt-kept m c b (p .sized ∙ sym sized) (p .bytes)
       go false = kept-same m b
 
@@ -137,7 +147,8 @@ module _ (keys : List ℕ) (k : ℕ) (m : Module) (b : Bytes m) (sized : length 
   media-kept = shadow-call (shadowOwners h (m .array)) (from-length _ 0 (slots h)) (badSlot h (shadowOwners h (m .array)))
 
 kept-trans : (m n o : Module) → Kept m n → Kept n o → Kept m o
-kept-trans m n o p q = record { array = q .array ∙ p .array; control = q .control ∙ p .control; cache = q .cache ∙ p .cache; bytes = q .bytes }
+kept-trans m n o p q =
+    record { array = q .array ∙ p .array; control = q .control ∙ p .control; cache = q .cache ∙ p .cache; bytes = q .bytes }
 
 -- the depth is in the first bytes
 front-depth : (k l : List ℕ) → part k 0 7 ≡ part l 0 7 → depth k ≡ depth l
@@ -151,7 +162,8 @@ module _ (keys : List ℕ) (m : Module) (b : Bytes m) (ok : Opened keys m) where
   pending-within : Each (Within (length (m .array) / 72)) (pendingStores (m .control))
   pending-within =
       rw (array-cells (depth (m .control)) (length (m .array)) (ok .fits .array))
-      (within-pending (cells (depth (m .control))) (m .control) (ok .record664) (b .control) (head-of keys m ok .few) (valid-parts (ok .right) .1))
+      (within-pending (cells (depth (m .control))) (m .control) (ok .record664) (b .control) (head-of keys m ok .few)
+      (valid-parts (ok .right) .1))
 
   abbrev xs : List Store
   xs = pendingStores (m .control)

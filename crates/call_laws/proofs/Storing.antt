@@ -28,13 +28,15 @@ pub storing-array : (allowance : ℕ) (m : Module) (xs : List Store) (answer : A
     → (storing allowance m xs answer c) .after .array ≡ storeAll (mediaOf m) (made allowance xs) .array
 storing-array allowance m xs answer c = go (isCut allowance xs) refl
   where
-    go : (t : Bool) → isCut allowance xs ≡ t → (storing allowance m xs answer c) .after .array ≡ storeAll (mediaOf m) (made allowance xs) .array
+    go : (t : Bool) → isCut allowance xs ≡ t
+        → (storing allowance m xs answer c) .after .array ≡ storeAll (mediaOf m) (made allowance xs) .array
     go true e = ap (λ (x : Called). x .after .array) (storing-is allowance m xs answer c true e)
     go false e = ap (λ (x : Called). x .after .array) (storing-is allowance m xs answer c false e)
 
 -- ---- from the stores that were made
 
-module _ (allowance : ℕ) (m : Module) (xs : List Store) (answer : Answer) (c a k : List ℕ) (told : ℕ) (s : Stored allowance xs (mediaOf m) (media a k) told) where
+module _ (allowance : ℕ) (m : Module) (xs : List Store) (answer : Answer) (c a k : List ℕ) (told : ℕ)
+    (s : Stored allowance xs (mediaOf m) (media a k) told) where
   few : told ≡ min allowance (length xs)
   few = s .number ∙ length-take allowance xs
 
@@ -75,7 +77,8 @@ module _ (allowance : ℕ) (m : Module) (xs : List Store) (n : ℕ) (d : List �
           record {
             whole = g;
             stores = cc;
-            called = λ answer. ap (λ (x : Called). record { answer = answer; after = x .after }) (as-ended false g) ∙ sym (storing-is allowance m xs answer d false g);
+            called = λ answer. ap (λ (x : Called). record { answer = answer; after = x .after }) (as-ended false g)
+                ∙ sym (storing-is allowance m xs answer d false g);
           }
 
   pub record Broken : Type 0 where
