@@ -8,7 +8,6 @@ use lib.Dec.{lit<}
 use Rattle.words.specs.Bytes.{number, digits}
 use Rattle.words.proofs.Digits.{number-exact}
 use Rattle.memory_map.specs.Map.{lines}
-use Rattle.tag.proofs.Tags.{nodeTag-lt}
 use Rattle.control.specs.Control.{depth, root, count, validHead, freshControl}
 use Rattle.cache.specs.Cache.{emptyCache}
 use Rattle.cache.proofs.Laws.{length-empty, below-empty, owner-empty, formed-empty}
@@ -16,8 +15,9 @@ use Rattle.journal.specs.Journal.{media}
 use Rattle.calls.specs.Recovery.{total}
 use Rattle.calls.specs.Format.{freshArray, countsFrom}
 use Rattle.calls.specs.History.{emptyBook}
-use Rattle.call_laws.proofs.Fresh.{fresh-bytes, array-length, array-bytes, control-length, control-bytes}
-use Rattle.history_laws.proofs.Setting.{Setting, treeNode, treeRoot}
+use Rattle.call_laws.proofs.Fresh.{array-length, array-bytes, control-length, control-bytes}
+use Rattle.history_laws.proofs.Setting.{Setting, treeRoot}
+use Rattle.history_laws.proofs.Tree.{tree-tag}
 use Rattle.history_laws.proofs.Formatted.{noWrites, formatted-durable, none-listed}
 use Rattle.history_laws.proofs.State.{RowOk, Settled, Ready, settled-holds}
 
@@ -53,7 +53,7 @@ module _ (S : Setting) where
   top = treeRoot S noWrites
 
   word : top < 2 ^ 64
-  word = nodeTag-lt keys (treeNode S noWrites h 0) h 0 keyed (fresh-bytes keys (noWrites .count) h 0)
+  word = tree-tag S noWrites h 0
 
   first-settled : Settled S emptyBook (media (freshArray keys h) (freshControl h top))
   unfolding emptyBook RowOk

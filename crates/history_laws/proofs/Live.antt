@@ -22,9 +22,9 @@ use Rattle.cache.proofs.Laws.{owner-same, content-same, owner-other, dirty-othe
 use Rattle.cache.proofs.Laws.{holds-owner, owner-holds, slot-holds, current-cached, current-missing}
 use Rattle.journal.proofs.Again.{put-cells}
 use Rattle.calls.specs.Path.{evicted, nodeCell}
-use Rattle.call_laws.proofs.Fresh.{fresh-length}
 use Rattle.call_laws.proofs.Loads.{Fit}
 use Rattle.history_laws.proofs.Setting.{Setting, Tree, treeNode, nodeIn}
+use Rattle.history_laws.proofs.Tree.{tree-length}
 use Rattle.history_laws.proofs.Recovered.{Durable}
 use Rattle.history_laws.proofs.Stores.{with-node, node-same, other-level, node-lines, shadow-kept, fresh-kept, node-durable}
 use Rattle.history_laws.proofs.Stores.{Vacant, shadow-lines, listed-same, listed-other, nodes-kept, shadow-durable}
@@ -166,7 +166,7 @@ module _ {S : Setting} {T : Tree} {a c : List ℕ} (v : Live S T a c) where
     next = withSlot c (slotOf l i) (suc i) 0 (treeNode S T l i)
 
     size : length (treeNode S T l i) ≡ 64
-    size = fresh-length keys (T .count) l i
+    size = tree-length S T l i
 
     pub own-same : owner next (slotOf l i) ≡ suc i
     own-same = owner-same h c (v .fit .sized) (slotOf l i) within (suc i) 0 (treeNode S T l i) size (vacant .word)

@@ -12,14 +12,12 @@ use lib.ListN.{length, replicate, take, drop}
 use lib.Seq.{take-at, drop-at, take-all, take-take}
 use Rattle.memory_map.proofs.Laws.{page-inside}
 use Rattle.words.specs.Bytes.{fromLe, part}
-use Rattle.words.proofs.Digits.{length-digits}
 use Rattle.words.proofs.Parts.{part-part}
 use Rattle.memory_map.specs.Map.{pageOf, pages, lines}
 use Rattle.counter.specs.Counter.{major}
 use Rattle.pad.specs.Pad.{pad, xorBytes}
 use Rattle.pad.proofs.Xor.{xor-back}
 use Rattle.pad.proofs.Nonce.{length-pad}
-use Rattle.tag.specs.Tag.{dataTag}
 use Rattle.answer.specs.declared.Answer.the-variants.{Done, Blank}
 use Rattle.control.specs.Control.{root, count}
 use Rattle.cache.specs.Cache.{cellContent}
@@ -31,9 +29,10 @@ use Rattle.calls.specs.Read.{answered, readLoaded, readPath, readJudged, read, 
 use Rattle.calls.specs.Path.{loaded, loadPath}
 use Rattle.calls.specs.History.{Book}
 use Rattle.call_laws.proofs.Loads.{Loads, LoadsIf, path-loads}
-use Rattle.history_laws.proofs.Setting.{Setting, treeOf, treeRoot}
+use Rattle.history_laws.proofs.Setting.{Setting, treeOf, treeRoot, padOf, cipherOf, sideOf}
 use Rattle.history_laws.proofs.Walked.{Array, Walked, walked}
-use Rattle.history_laws.proofs.Written.{dataBytes, length-cipher, Reached, minor-is as minor-held, major-is as major-held}
+use Rattle.history_laws.proofs.Written.{dataBytes, length-cipher, length-side}
+use Rattle.history_laws.proofs.Written.{Reached, minor-is as minor-held, major-is as major-held}
 use Rattle.history_laws.proofs.State.{RowOk, Settled, Holds, Ready, settled-now}
 
 -- a line of a module that is ready
@@ -86,20 +85,23 @@ module _ {S : Setting} {b : Book} {m : Module} {n : ℕ} (w : Access S b m n) wh
 
   module _ (t : List ℕ) (full : length t ≡ 64) (row : part (m .array) (72 * n) 72 ≡ dataBytes S (treeOf b) n t) where
     abbrev cipher : List ℕ
-    cipher = xorBytes t (pad keys n 0 (b .count n))
+    cipher = cipherOf S (treeOf b) n t
+
+    abbrev side : List ℕ
+    side = sideOf S (treeOf b) n t
 
     cipher-is : cellContent (m .array) n ≡ cipher
     unfolding cellContent dataBytes
     cipher-is =
         sym (take-take 64 72 (drop (72 * n) (m .array)) (lit≤ tt)) ∙ ap (take 64) row
-        ∙ take-at cipher (sideBytes keys cipher n 0 (b .count n)) 64 (length-cipher S (treeOf b) n t full)
+        ∙ take-at cipher side 64 (length-cipher S (treeOf b) n t full)
 
-    side-is : part (m .array) (72 * n + 64) 8 ≡ sideBytes keys cipher n 0 (b .count n)
+    side-is : part (m .array) (72 * n + 64) 8 ≡ side
     unfolding dataBytes
     side-is =
         sym (part-part (m .array) (72 * n) 72 64 8 (lit≤ tt)) ∙ ap (λ (l : List ℕ). part l 64 8) row
-        ∙ ap (take 8) (drop-at cipher (sideBytes keys cipher n 0 (b .count n)) 64 (length-cipher S (treeOf b) n t full))
-        ∙ take-all 8 (sideBytes keys cipher n 0 (b .count n)) (omega (arith, length-digits 256 7 (dataTag keys cipher n 0 (b .count n))))
+        ∙ ap (take 8) (drop-at cipher side 64 (length-cipher S (treeOf b) n t full))
+        ∙ take-all 8 side (omega (arith, length-side S (treeOf b) n t full))
 
     side-ok : sideOk keys (m .array) (walk .cache) n ≡ true
     unfolding sideOk
@@ -113,7 +115,7 @@ module _ {S : Setting} {b : Book} {m : Module} {n : ℕ} (w : Access S b m n) wh
     unfolding lineText
     text-is =
         ap₂ xorBytes cipher-is (ap₂ (pad keys n) major-is minor-is)
-        ∙ xor-back t (pad keys n 0 (b .count n)) (omega (arith, length-pad keys n 0 (b .count n)))
+        ∙ xor-back t (padOf S (treeOf b) n) (omega (arith, length-pad keys n 0 (b .count n)))
 
   -- ---- what a read answers
 

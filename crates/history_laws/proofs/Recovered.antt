@@ -17,7 +17,6 @@ use Rattle.slot_map.specs.Slots.{cacheLength, slotOf, levelOf}
 use Rattle.slot_map.proofs.Laws.{slot-within, level-slot, level-low, level-high, level-within, belongs-node}
 use Rattle.counter.specs.Counter.{major, minors, minor, counterBlock, phaseOf, forward, mayForward}
 use Rattle.counter.proofs.Laws.{length-minors, forward-reaches}
-use Rattle.tag.specs.Tag.{nodeTag}
 use Rattle.cache.specs.Cache.{owner, dirty, content, shadowOwner, shadowOwners, withSlot}
 use Rattle.cache.specs.Cache.{badSlot, emptyCache, from, holds, current}
 use Rattle.cache.proofs.Laws.{Owned, owned-same, Formed, not-bad, length-with, owner-same, dirty-same}
@@ -32,8 +31,8 @@ use Rattle.calls.specs.Recovery.{recoverRebuilt, recoverShadow, recoverMedia, r
 use Rattle.calls.specs.Format.{countsFrom, freshNode}
 use Rattle.calls.specs.Path.{childTags}
 use Rattle.call_laws.proofs.Tags.{tags-agree}
-use Rattle.call_laws.proofs.Fresh.{fresh-length}
-use Rattle.history_laws.proofs.Setting.{Setting, Tree, Small, treeNode, treeRoot, nodeIn}
+use Rattle.history_laws.proofs.Setting.{Setting, Tree, Small, treeNode, treeRoot, nodeIn, tagOf}
+use Rattle.history_laws.proofs.Tree.{tree-length}
 
 -- what an array keeps of a tree
 module _ (S : Setting) (T : Tree) where
@@ -177,7 +176,7 @@ module _ {S : Setting} {T : Tree} {a : List ℕ} (m : Durable S T a) where
   module _ (s i : ℕ) (c b : List ℕ) (within : s < slots h) (e : shadowOwner h a s ≡ suc i) (same : b ≡ treeNode S T (levelOf s) i)
       (u : Upto s c) where
     size : length b ≡ 64
-    size = ap length same ∙ fresh-length keys count (levelOf s) i
+    size = ap length same ∙ tree-length S T (levelOf s) i
 
     word : suc i < 2 ^ 64
     word = omega (arith, listed-node s i within e .0, nodes-small {h = h} (levelOf s) refl high)
@@ -414,8 +413,8 @@ module _ {S : Setting} {T : Tree} (x : Module) (deep : depth (x .control) ≡ S 
   root-right sum =
       let top-in = slot-within h h 0 (le-refl h) in
       ap (λ (b : Bool). cond b (done-with sum) (refuseAfter k x 29 0))
-      (eq-eqb _ _ (ap (λ (d : ℕ). nodeTag keys (current d a c d 0) d 0) deep
-      ∙ ap (λ (b : List ℕ). nodeTag keys b h 0) (current-fresh m (slots h) c (all-slots m) h 0 (le-refl h) (nodes-some h h) top-in)
+      (eq-eqb _ _ (ap (λ (d : ℕ). tagOf S (current d a c d 0) d 0) deep
+      ∙ ap (λ (b : List ℕ). tagOf S b h 0) (current-fresh m (slots h) c (all-slots m) h 0 (le-refl h) (nodes-some h h) top-in)
       ∙ sym top))
 
   -- so recovery is done

@@ -16,10 +16,9 @@ use Rattle.slot_map.proofs.Laws.{slot-within, level-slot}
 use Rattle.cache.specs.Cache.{owner, dirty, content, withSlot}
 use Rattle.cache.proofs.Laws.{length-with, below-with, owner-same, dirty-same, content-same, owner-other, dirty-other, content-other}
 use Rattle.calls.specs.Path.{renewed, renewPath}
-use Rattle.call_laws.proofs.Fresh.{fresh-length, fresh-bytes}
 use Rattle.call_laws.proofs.Loads.{Fit}
 use Rattle.history_laws.proofs.Setting.{Setting, Tree, treeNode}
-use Rattle.history_laws.proofs.Tree.{Path, renewed-fresh}
+use Rattle.history_laws.proofs.Tree.{tree-bytes, tree-length, Path, renewed-fresh}
 
 -- the cache c holds the path of page p in the tree T, to be renewed to that of U with this flag for its block
 pub record Renewing (S : Setting) (T U : Tree) (p : ℕ) (c : List ℕ) (flag : ℕ) : Type 0 where
@@ -68,7 +67,7 @@ module _ {S : Setting} {T U : Tree} {p : ℕ} {c : List ℕ} {flag : ℕ} (w : R
   -- one level more
   module _ (n : ℕ) (q : n ≤ h) (d : List ℕ) (u : After n d) (b : List ℕ) (new : b ≡ treeNode S U n (onPath p n)) where
     size : length b ≡ 64
-    size = ap length new ∙ fresh-length keys (U .count) n (onPath p n)
+    size = ap length new ∙ tree-length S U n (onPath p n)
 
     there : slot n < slots h
     there = slot-within h n (onPath p n) q
@@ -112,7 +111,7 @@ module _ {S : Setting} {T U : Tree} {p : ℕ} {c : List ℕ} {flag : ℕ} (w : R
         record {
           sized = length-with h d (u .sized) (slot n) there (suc (onPath p n)) (flagAt flag n) b size ∙ u .sized;
           bytes = below-with h d (u .sized) (slot n) there (suc (onPath p n)) (flagAt flag n) b size
-              (omega (arith, flag-small flag (w .small) n)) (subst (Below 256) (sym new) (fresh-bytes keys (U .count) n (onPath p n)))
+              (omega (arith, flag-small flag (w .small) n)) (subst (Below 256) (sym new) (tree-bytes S U n (onPath p n)))
               (u .bytes);
           own = λ t s. owns t s (eq-or-not t (slot n));
           on = λ k s. contents k s (eq-or-not k n);

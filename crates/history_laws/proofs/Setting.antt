@@ -7,6 +7,9 @@ use Rattle.words.proofs.Digits.{Below}
 use Rattle.memory_map.specs.Map.{cellOf}
 use Rattle.memory_map.specs.Map.Item.{node}
 use Rattle.cache.specs.Cache.{cellContent}
+use Rattle.pad.specs.Pad.{pad, xorBytes}
+use Rattle.tag.specs.Tag.{nodeTag}
+use Rattle.calls.specs.Read.{sideBytes}
 use Rattle.calls.specs.Format.{freshNode, freshRoot}
 use Rattle.calls.specs.History.{Book, changed}
 
@@ -44,3 +47,17 @@ treeRoot S T = freshRoot (S .keys) (T .count) (S .h)
 -- a node as the array has it
 abbrev pub nodeIn : Setting → List ℕ → ℕ → ℕ → List ℕ
 nodeIn S a l i = cellContent a (cellOf (S .h) (node l i))
+
+-- a node's tag
+abbrev pub tagOf : Setting → List ℕ → ℕ → ℕ → ℕ
+tagOf S b l i = nodeTag (S .keys) b l i
+
+-- a text of line n encrypted, and its side bytes
+abbrev pub padOf : Setting → Tree → ℕ → List ℕ
+padOf S T n = pad (S .keys) n 0 (T .count n)
+
+abbrev pub cipherOf : Setting → Tree → ℕ → List ℕ → List ℕ
+cipherOf S T n text = xorBytes text (padOf S T n)
+
+abbrev pub sideOf : Setting → Tree → ℕ → List ℕ → List ℕ
+sideOf S T n text = sideBytes (S .keys) (cipherOf S T n text) n 0 (T .count n)

@@ -24,9 +24,8 @@ use Rattle.counter.specs.Counter.{major, minor, phaseOf}
 use Rattle.cache.specs.Cache.{cellContent, shadowOwner, topSlot}
 use Rattle.cache.proofs.Laws.{owned-same}
 use Rattle.calls.specs.Recovery.{phaseByte}
-use Rattle.call_laws.proofs.Fresh.{fresh-length}
 use Rattle.history_laws.proofs.Setting.{Setting, Tree, treeNode, nodeIn}
-use Rattle.history_laws.proofs.Tree.{fresh-major, fresh-minor}
+use Rattle.history_laws.proofs.Tree.{tree-length, fresh-major, fresh-minor}
 use Rattle.history_laws.proofs.Recovered.{Durable}
 
 -- ---- items apart
@@ -164,7 +163,7 @@ node-put S T a l i whole p q =
     record {
       whole = whole;
       inside = in-node (S .h) l i p q;
-      size = length-append (treeNode S T l i) (replicate 8 0) ∙ ap (λ (n : ℕ). n + 8) (fresh-length (S .keys) (T .count) l i);
+      size = length-append (treeNode S T l i) (replicate 8 0) ∙ ap (λ (n : ℕ). n + 8) (tree-length S T l i);
     }
 
 module _ {S : Setting} {T : Tree} {a : List ℕ} (m : Durable S T a) where
@@ -180,7 +179,7 @@ module _ {S : Setting} {T : Tree} {a : List ℕ} (m : Durable S T a) where
 
     pub node-same : nodeIn S with-node l i ≡ treeNode S T l i
     unfolding cellContent
-    node-same = same-part w 64 (omega arith) ∙ take-at (treeNode S T l i) (replicate 8 0) 64 (fresh-length keys count l i)
+    node-same = same-part w 64 (omega arith) ∙ take-at (treeNode S T l i) (replicate 8 0) 64 (tree-length S T l i)
 
     -- the cell of a node: this one's is fresh, another's as before
     node-cases : (P : List ℕ → Type 0) (k j : ℕ) → k ≤ h → j < nodes h k → P (treeNode S T k j) → P (nodeIn S a k j)

@@ -3,7 +3,7 @@
 use mathlib.Core.Path.{_≡_, refl, sym, ap, ap₂, _∙_}
 use mathlib.Core.Bool.{Bool, cond}
 use mathlib.Core.List.{List, _∷_, _++_, append-assoc}
-use Prim.Native.Nat.{ℕ, zero, suc, _+_, _*_, _/_, _%_, _≤_, _<_}
+use Prim.Native.Nat.{ℕ, zero, suc, _+_, _*_, _/_, _%_, _^_, _≤_, _<_}
 use native.Mathlib.Nat.{le-refl}
 use native.Mathlib.Omega.{arith}
 use borrow.Author.Tests.{eq-eqb, ne-eqb}
@@ -16,16 +16,15 @@ use Rattle.memory_map.specs.Map.{pageOf, onPath}
 use Rattle.slot_map.specs.Slots.{slotOf}
 use Rattle.counter.specs.Counter.{major, minors, minor, counterBlock, withMinor}
 use Rattle.counter.proofs.Laws.{major-counterBlock, minors-counterBlock}
-use Rattle.tag.specs.Tag.{nodeTag}
 use Rattle.tag.proofs.Tags.{nodeTag-lt}
 use Rattle.cache.specs.Cache.{content}
 use Rattle.calls.specs.Format.{countsFrom, freshNode}
 use Rattle.calls.specs.History.{changed}
 use Rattle.calls.specs.Path.{childTag, renewed, tagsFrom}
 use Rattle.memory_map.proofs.Laws.{path-up, path-bottom}
-use Rattle.call_laws.proofs.Fresh.{fresh-bytes}
+use Rattle.call_laws.proofs.Fresh.{fresh-length, fresh-bytes}
 use Rattle.call_laws.proofs.Tags.{tags-agree}
-use Rattle.history_laws.proofs.Setting.{Setting, Tree, Small, raised, treeNode}
+use Rattle.history_laws.proofs.Setting.{Setting, Tree, Small, raised, treeNode, tagOf}
 
 -- ---- a function changed at one number
 
@@ -70,23 +69,6 @@ counts-set f g n (suc k) (suc j) e =
 
 -- ---- lists of tags
 
-module _ (keys : List ℕ) (l : ℕ) where
-  -- the tag at place k
-  tags-at : (f : ℕ → List ℕ) (i n k : ℕ) → k < n → part (tagsFrom keys l f i n) (8 * k) 8 ≡ toLe 8 (nodeTag keys (f (i + k)) l (i + k))
-  unfolding tagsFrom
-  tags-at f i zero k p = absurd (omega arith)
-  tags-at f i (suc n) zero p =
-      take-at (toLe 8 (nodeTag keys (f i) l i)) (tagsFrom keys l f (suc i) n) 8 (length-digits 256 8 (nodeTag keys (f i) l i))
-      ∙ ap (λ (j : ℕ). toLe 8 (nodeTag keys (f j) l j)) (omega arith)
-  tags-at f i (suc n) (suc k) p =
-      let t = toLe 8 (nodeTag keys (f i) l i) in
-      let at : 8 * suc k ≡ length t + 8 * k = omega (arith, length-digits 256 8 (nodeTag keys (f i) l i)) in
-      let next : suc i + k ≡ i + suc k = omega arith in
-      ap (λ (j : ℕ). part (t ++ tagsFrom keys l f (suc i) n) j 8) at
-      ∙ ap (take 8) (drop-append-add t (tagsFrom keys l f (suc i) n) (8 * k))
-      ∙ tags-at f (suc i) n k (omega arith)
-      ∙ ap (λ (j : ℕ). toLe 8 (nodeTag keys (f j) l j)) next
-
 -- a replacement past a first list, and of a first list
 put-past : (xs ys : List ℕ) (at : ℕ) (bs : List ℕ) → put (xs ++ ys) (length xs + at) bs ≡ xs ++ put ys at bs
 put-past xs ys at bs =
@@ -98,36 +80,59 @@ put-past xs ys at bs =
 put-front : (xs ys bs : List ℕ) → length bs ≡ length xs → put (xs ++ ys) 0 bs ≡ bs ++ ys
 put-front xs ys bs e = ap (λ (r : List ℕ). bs ++ r) (drop-at xs ys (0 + length bs) (omega arith))
 
-module _ (keys : List ℕ) (l : ℕ) (f g : ℕ → List ℕ) where
-  tag8 : (i : ℕ) (b : List ℕ) → length (toLe 8 (nodeTag keys b l i)) ≡ 8
-  tag8 i b = length-digits 256 8 (nodeTag keys b l i)
+module _ (S : Setting) (l : ℕ) where
+  -- the tag of node i, which has the content f i, and those of n nodes from i on
+  abbrev tag : (ℕ → List ℕ) → ℕ → List ℕ
+  tag f i = toLe 8 (tagOf S (f i) l i)
+
+  abbrev tags : (ℕ → List ℕ) → ℕ → ℕ → List ℕ
+  tags f i n = tagsFrom (S .keys) l f i n
+
+  tag8 : (f : ℕ → List ℕ) (i : ℕ) → length (tag f i) ≡ 8
+  tag8 f i = length-digits 256 8 (tagOf S (f i) l i)
+
+  -- the tag at place k
+  tags-at : (f : ℕ → List ℕ) (i n k : ℕ) → k < n → part (tags f i n) (8 * k) 8 ≡ tag f (i + k)
+  unfolding tagsFrom
+  tags-at f i zero k p = absurd (omega arith)
+  tags-at f i (suc n) zero p = take-at (tag f i) (tags f (suc i) n) 8 (tag8 f i) ∙ ap (tag f) (omega arith)
+  tags-at f i (suc n) (suc k) p =
+      let at : 8 * suc k ≡ length (tag f i) + 8 * k = omega (arith, tag8 f i) in
+      let next : suc i + k ≡ i + suc k = omega arith in
+      ap (λ (j : ℕ). part (tag f i ++ tags f (suc i) n) j 8) at
+      ∙ ap (take 8) (drop-append-add (tag f i) (tags f (suc i) n) (8 * k)) ∙ tags-at f (suc i) n k (omega arith) ∙ ap (tag f) next
 
   -- one tag replaced
-  tags-put : (i n k : ℕ) → k < n → ((j : ℕ) → (j ≡ i + k → ⊥) → f j ≡ g j)
-      → put (tagsFrom keys l f i n) (8 * k) (toLe 8 (nodeTag keys (g (i + k)) l (i + k))) ≡ tagsFrom keys l g i n
+  tags-put : (f g : ℕ → List ℕ) (i n k : ℕ) → k < n → ((j : ℕ) → (j ≡ i + k → ⊥) → f j ≡ g j)
+      → put (tags f i n) (8 * k) (tag g (i + k)) ≡ tags g i n
   unfolding tagsFrom
-  tags-put i zero k p e = absurd (omega arith)
-  tags-put i (suc n) zero p e =
+  tags-put f g i zero k p e = absurd (omega arith)
+  tags-put f g i (suc n) zero p e =
       let here : i + 0 ≡ i = omega arith in
-      put-front (toLe 8 (nodeTag keys (f i) l i)) (tagsFrom keys l f (suc i) n) (toLe 8 (nodeTag keys (g (i + 0)) l (i + 0)))
-      (tag8 (i + 0) (g (i + 0)) ∙ sym (tag8 i (f i)))
-      ∙ ap₂ (λ (j : ℕ) (r : List ℕ). toLe 8 (nodeTag keys (g j) l j) ++ r) here
-      (tags-agree keys l f g (suc i) n (λ j q r. e j (λ z. omega arith)))
-  tags-put i (suc n) (suc k) p e =
-      let t = toLe 8 (nodeTag keys (f i) l i) in
-      let at : 8 * suc k ≡ length t + 8 * k = omega (arith, tag8 i (f i)) in
+      put-front (tag f i) (tags f (suc i) n) (tag g (i + 0)) (tag8 g (i + 0) ∙ sym (tag8 f i))
+      ∙ ap₂ (λ (j : ℕ) (r : List ℕ). tag g j ++ r) here (tags-agree (S .keys) l f g (suc i) n (λ j q r. e j (λ z. omega arith)))
+  tags-put f g i (suc n) (suc k) p e =
+      let at : 8 * suc k ≡ length (tag f i) + 8 * k = omega (arith, tag8 f i) in
       let next : i + suc k ≡ suc i + k = omega arith in
-      let new : ℕ → List ℕ = λ j. toLe 8 (nodeTag keys (g j) l j) in
-      ap (λ (a : ℕ). put (t ++ tagsFrom keys l f (suc i) n) a (new (i + suc k))) at
-      ∙ put-past t (tagsFrom keys l f (suc i) n) (8 * k) (new (i + suc k))
-      ∙ ap₂ (λ (b r : List ℕ). toLe 8 (nodeTag keys b l i) ++ r) (e i (λ z. omega arith))
-      (ap (λ (j : ℕ). put (tagsFrom keys l f (suc i) n) (8 * k) (new j)) next
-      ∙ tags-put (suc i) n k (omega arith) (λ j q. e j (λ z. q (omega arith))))
+      ap (λ (a : ℕ). put (tag f i ++ tags f (suc i) n) a (tag g (i + suc k))) at
+      ∙ put-past (tag f i) (tags f (suc i) n) (8 * k) (tag g (i + suc k))
+      ∙ ap₂ (λ (b r : List ℕ). toLe 8 (tagOf S b l i) ++ r) (e i (λ z. omega arith))
+      (ap (λ (j : ℕ). put (tags f (suc i) n) (8 * k) (tag g j)) next
+      ∙ tags-put f g (suc i) n k (omega arith) (λ j q. e j (λ z. q (omega arith))))
 
 -- ---- nodes
 
 module _ (S : Setting) where
-  open Setting S using (keys, keyed, h)
+  open Setting S using (keys, keyed)
+
+  pub tree-length : (T : Tree) (l i : ℕ) → length (treeNode S T l i) ≡ 64
+  tree-length T l i = fresh-length keys (T .count) l i
+
+  pub tree-bytes : (T : Tree) (l i : ℕ) → Below 256 (treeNode S T l i)
+  tree-bytes T l i = fresh-bytes keys (T .count) l i
+
+  pub tree-tag : (T : Tree) (l i : ℕ) → tagOf S (treeNode S T l i) l i < 2 ^ 64
+  tree-tag T l i = nodeTag-lt keys (treeNode S T l i) l i keyed (tree-bytes T l i)
 
   -- counts that agree on the lines below a node give the same node
   pub fresh-agree : (T U : Tree) (l i : ℕ) → ((x : ℕ) → onPath (pageOf x) l ≡ i → T .count x ≡ U .count x)
@@ -140,13 +145,13 @@ module _ (S : Setting) where
       (λ j p q. fresh-agree T U l j (λ x r. e x (path-up (pageOf x) l ∙ ap (λ (k : ℕ). k / 8) r ∙ omega arith)))
 
   -- a node holds the tags of its children
-  pub child-fresh : (T : Tree) (l i : ℕ) → childTag (treeNode S T (suc l) (i / 8)) i ≡ nodeTag keys (treeNode S T l i) l i
+  pub child-fresh : (T : Tree) (l i : ℕ) → childTag (treeNode S T (suc l) (i / 8)) i ≡ tagOf S (treeNode S T l i) l i
   unfolding freshNode
   child-fresh T l i =
       let here : 8 * (i / 8) + i % 8 ≡ i = omega arith in
-      ap fromLe (tags-at keys l (treeNode S T l) (8 * (i / 8)) 8 (i % 8) (omega arith))
-      ∙ ap (λ (j : ℕ). fromLe (toLe 8 (nodeTag keys (treeNode S T l j) l j))) here
-      ∙ number-exact 256 8 _ (lit< tt) (nodeTag-lt keys (treeNode S T l i) l i keyed (fresh-bytes keys (T .count) l i))
+      ap fromLe (tags-at S l (treeNode S T l) (8 * (i / 8)) 8 (i % 8) (omega arith))
+      ∙ ap (λ (j : ℕ). fromLe (toLe 8 (tagOf S (treeNode S T l j) l j))) here
+      ∙ number-exact 256 8 _ (lit< tt) (tree-tag T l i)
 
 -- ---- counter blocks
 
@@ -198,18 +203,18 @@ module _ {S : Setting} {T U : Tree} {p : ℕ} {c : List ℕ} (path : Path S T U 
 
   -- one level further up
   above : (l i u : ℕ) → 8 * u + i % 8 ≡ i → ((j : ℕ) → (j ≡ i → ⊥) → (x : ℕ) → onPath (pageOf x) l ≡ j → T .count x ≡ U .count x)
-      → put (treeNode S T (suc l) u) (8 * (i % 8)) (toLe 8 (nodeTag keys (treeNode S U l i) l i)) ≡ treeNode S U (suc l) u
+      → put (treeNode S T (suc l) u) (8 * (i % 8)) (toLe 8 (tagOf S (treeNode S U l i) l i)) ≡ treeNode S U (suc l) u
   unfolding freshNode
   above l i u split apart =
-      ap (λ (k : ℕ). put (treeNode S T (suc l) u) (8 * (i % 8)) (toLe 8 (nodeTag keys (treeNode S U l k) l k))) (sym split)
-      ∙ tags-put keys l (treeNode S T l) (treeNode S U l) (8 * u) 8 (i % 8) (omega arith)
+      ap (λ (k : ℕ). put (treeNode S T (suc l) u) (8 * (i % 8)) (toLe 8 (tagOf S (treeNode S U l k) l k))) (sym split)
+      ∙ tags-put S l (treeNode S T l) (treeNode S U l) (8 * u) 8 (i % 8) (omega arith)
       (λ j d. fresh-agree S T U l j (apart j (λ z. d (z ∙ sym split))))
 
   pub renewed-fresh : (l : ℕ) → l ≤ h → renewed keys c p (treeNode S U 0 p) l ≡ treeNode S U l (onPath p l)
   unfolding renewed
   renewed-fresh zero q = ap (treeNode S U 0) (sym (path-bottom p))
   renewed-fresh (suc l) q =
-      ap₂ (λ (s t : List ℕ). put s (8 * (onPath p l % 8)) (toLe 8 (nodeTag keys t l (onPath p l)))) (path .fresh (suc l) q)
+      ap₂ (λ (s t : List ℕ). put s (8 * (onPath p l % 8)) (toLe 8 (tagOf S t l (onPath p l)))) (path .fresh (suc l) q)
       (renewed-fresh l (omega arith))
       ∙ above l (onPath p l) (onPath p (suc l)) (omega (arith, path-up p l))
       (λ j d x r. path .same x (λ z. d (sym r ∙ ap (λ (y : ℕ). onPath y l) z)))

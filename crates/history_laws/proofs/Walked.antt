@@ -17,14 +17,13 @@ use Rattle.words.proofs.Order.{eq-or-not}
 use Rattle.memory_map.specs.Map.{pages, lines, nodes, arrayLength, onPath}
 use Rattle.slot_map.specs.Slots.{slotOf, levelOf}
 use Rattle.slot_map.proofs.Laws.{slot-within, level-slot}
-use Rattle.tag.specs.Tag.{nodeTag}
 use Rattle.control.specs.Control.{Cell}
 use Rattle.cache.specs.Cache.{owner, content, withSlot, topSlot, holds}
 use Rattle.cache.proofs.Laws.{holds-owner}
 use Rattle.journal.proofs.Again.{put-cells, put-cells-append}
 use Rattle.calls.specs.Path.{childTag, evicted, shadowCell, Loaded, loaded, differs, loadNode, loadLevels, loadPath}
 use Rattle.call_laws.proofs.Loads.{Fit, slot-fit}
-use Rattle.history_laws.proofs.Setting.{Setting, Tree, treeNode, treeRoot, nodeIn}
+use Rattle.history_laws.proofs.Setting.{Setting, Tree, treeNode, treeRoot, nodeIn, tagOf}
 use Rattle.history_laws.proofs.Tree.{child-fresh}
 use Rattle.history_laws.proofs.Live.{Live, Missing, not-listed, own-same, own-other, array-next, live-next, lower-next, rows-next}
 
@@ -52,7 +51,7 @@ module _ {S : Setting} (T : Tree) {base : List ℕ} (ok : Array S base) where
 
   module _ {a c : List ℕ} (v : Live S T a c) (l i : ℕ) (lh : l ≤ h) (inside : i < nodes h l) (top : owner c (topSlot h) ≡ 0 → l ≡ h)
       (there : nodeIn S base l i ≡ nodeIn S a l i)
-      (t : ℕ) (tag : t ≡ nodeTag keys (treeNode S T l i) l i) where
+      (t : ℕ) (tag : t ≡ tagOf S (treeNode S T l i) l i) where
     abbrev b : List ℕ
     b = nodeIn S base l i
 
@@ -68,7 +67,7 @@ module _ {S : Setting} (T : Tree) {base : List ℕ} (ok : Array S base) where
         record {
           cache = c;
           cells = [];
-          same = ap (λ (x : Bool). chosen x (eqb (nodeTag keys b l i) t) b) e;
+          same = ap (λ (x : Bool). chosen x (eqb (tagOf S b l i) t) b) e;
           live = v;
           held = holds-owner c l i e;
           others = λ k j z. refl;
@@ -89,9 +88,9 @@ module _ {S : Setting} (T : Tree) {base : List ℕ} (ok : Array S base) where
       loads : loadNode h keys base c l i t ≡ loaded with-it batch
       unfolding loadNode chosen
       loads =
-          ap (λ (x : Bool). chosen x (eqb (nodeTag keys b l i) t) b) absent
+          ap (λ (x : Bool). chosen x (eqb (tagOf S b l i) t) b) absent
           ∙ ap (λ (y : Bool). chosen false y b)
-          (eq-eqb (nodeTag keys b l i) t (ap (λ (n : List ℕ). nodeTag keys n l i) fresh ∙ sym tag))
+          (eq-eqb (tagOf S b l i) t (ap (λ (n : List ℕ). tagOf S n l i) fresh ∙ sym tag))
           ∙ ap (chosen false true) fresh
 
       fits : Fit h with-it
@@ -138,7 +137,7 @@ module _ {S : Setting} (T : Tree) {base : List ℕ} (ok : Array S base) where
           → nodeIn S base k j ≡ nodeIn S (put-cells base x) k j
       top : owner c (topSlot h) ≡ 0 → n ≡ suc h
       -- the tag that the highest of them must have
-      tag : (l : ℕ) → n ≡ suc l → t ≡ nodeTag keys (treeNode S T l (onPath p l)) l (onPath p l)
+      tag : (l : ℕ) → n ≡ suc l → t ≡ tagOf S (treeNode S T l (onPath p l)) l (onPath p l)
 
     record Levels (n t : ℕ) (c : List ℕ) (x : List Cell) : Type 0 where
       cache : List ℕ
@@ -180,7 +179,7 @@ module _ {S : Setting} (T : Tree) {base : List ℕ} (ok : Array S base) where
               )
           go (inr z) = z (suc-inj (w .top (sym (step .others h 0 (λ w. z (sym w))) ∙ e)))
 
-      tag-step : (k : ℕ) → l ≡ suc k → next-tag ≡ nodeTag keys (treeNode S T k (onPath p k)) k (onPath p k)
+      tag-step : (k : ℕ) → l ≡ suc k → next-tag ≡ tagOf S (treeNode S T k (onPath p k)) k (onPath p k)
       tag-step k e =
           let one : l - 1 ≡ k = omega arith in
           let parent : content (step .cache) (slotOf l (onPath p l)) ≡ treeNode S T l (onPath p l) =
@@ -256,7 +255,7 @@ module _ {S : Setting} (T : Tree) {base : List ℕ} (ok : Array S base) where
           live = v;
           lower = λ k j s u. refl;
           top = λ e. refl;
-          tag = λ l e. ap (λ (k : ℕ). nodeTag keys (treeNode S T h k) h k) (sym top-node)
-              ∙ ap (λ (n : ℕ). nodeTag keys (treeNode S T n (onPath p n)) n (onPath p n)) (suc-inj e);
+          tag = λ l e. ap (λ (k : ℕ). tagOf S (treeNode S T h k) h k) (sym top-node)
+              ∙ ap (λ (n : ℕ). tagOf S (treeNode S T n (onPath p n)) n (onPath p n)) (suc-inj e);
         }) in
         record { cache = r .cache; cells = r .cells; same = r .same; live = r .live; rows = r .rows; path = λ k s. r .path k (omega arith) }

@@ -16,7 +16,6 @@ use Rattle.words.proofs.Words.{part-lt}
 use Rattle.memory_map.specs.Map.{pageOf, lines}
 use Rattle.counter.specs.Counter.{phaseOf}
 use Rattle.pad.specs.Pad.{pad, xorBytes}
-use Rattle.tag.proofs.Tags.{nodeTag-lt}
 use Rattle.answer.specs.declared.Answer.{Answer}
 use Rattle.answer.specs.declared.Answer.the-variants.{Done}
 use Rattle.control.specs.Control.{Cell, root}
@@ -36,9 +35,8 @@ use Rattle.calls.specs.History.{Book, entered}
 use Rattle.call_laws.proofs.Judged.{access-accepted}
 use Rattle.call_laws.proofs.Kept.{Given, batch-sound, batch-bound}
 use Rattle.call_laws.proofs.Loads.{Sound}
-use Rattle.call_laws.proofs.Fresh.{fresh-bytes}
 use Rattle.history_laws.proofs.Setting.{Setting, Tree, treeOf, raised, treeNode, treeRoot}
-use Rattle.history_laws.proofs.Tree.{counts-agree, changed-same, changed-other, raised-same, raised-other}
+use Rattle.history_laws.proofs.Tree.{tree-tag, counts-agree, changed-same, changed-other, raised-same, raised-other}
 use Rattle.history_laws.proofs.Stores.{line-cell}
 use Rattle.history_laws.proofs.Live.{Live}
 use Rattle.history_laws.proofs.Written.{dataBytes, data-agree, new-block, new-root, Entry}
@@ -259,7 +257,7 @@ module _ {S : Setting} {b : Book} {m : Module} {n : ℕ} (w : Access S b m n) wh
           sound = sound-new;
           few = few-new;
           filled = some-new;
-          word = omega (arith, root-is, nodeTag-lt keys (treeNode S U h 0) h 0 keyed (fresh-bytes keys (U .count) h 0));
+          word = omega (arith, root-is, tree-tag S U h 0);
           keeps = record {
             durable = live-new .durable;
             rows = rows-new;

@@ -24,7 +24,7 @@ use Rattle.counter.specs.Counter.{major, minor, withMinor, phaseOf}
 use Rattle.pad.specs.Pad.{pad, xorBytes}
 use Rattle.pad.proofs.Xor.{length-xor}
 use Rattle.pad.proofs.Nonce.{length-pad}
-use Rattle.tag.specs.Tag.{nodeTag, dataTag}
+use Rattle.tag.specs.Tag.{dataTag}
 use Rattle.control.specs.Control.{Cell}
 use Rattle.cache.specs.Cache.{owner, dirty, content, shadowOwner, cellContent}
 use Rattle.cache.proofs.Laws.{owned-same, slot-holds}
@@ -33,10 +33,9 @@ use Rattle.calls.specs.Read.{sideBytes, pageBlock, lineMinor}
 use Rattle.calls.specs.Write.{newBlock}
 use Rattle.calls.specs.Recovery.{phaseByte}
 use Rattle.calls.specs.Path.{nodeCell, renewPath, renewedRoot}
-use Rattle.call_laws.proofs.Fresh.{fresh-length}
 use Rattle.call_laws.proofs.Loads.{Fit}
-use Rattle.history_laws.proofs.Setting.{Setting, Tree, Small, raised, treeNode, treeRoot, nodeIn}
-use Rattle.history_laws.proofs.Tree.{raised-same, raised-other, fresh-agree, fresh-major}
+use Rattle.history_laws.proofs.Setting.{Setting, Tree, Small, raised, padOf, cipherOf, sideOf, treeNode, treeRoot, nodeIn, tagOf}
+use Rattle.history_laws.proofs.Tree.{tree-length, raised-same, raised-other, fresh-agree, fresh-major}
 use Rattle.history_laws.proofs.Tree.{fresh-minor, fresh-with, Path, renewed-fresh}
 use Rattle.history_laws.proofs.Recovered.{Durable}
 use Rattle.history_laws.proofs.Stores.{kind, first, second, in-line, line-cell, Put, length-after, same-part, nodeBytes, node-put}
@@ -46,8 +45,7 @@ use Rattle.history_laws.proofs.Renewed.{Renewing, flagAt, flag-small, A
 
 -- the bytes of line n's cell, with a text
 unfoldable pub dataBytes : Setting → Tree → ℕ → List ℕ → List ℕ
-dataBytes S T n text =
-    xorBytes text (pad (S .keys) n 0 (T .count n)) ++ sideBytes (S .keys) (xorBytes text (pad (S .keys) n 0 (T .count n))) n 0 (T .count n)
+dataBytes S T n text = cipherOf S T n text ++ sideOf S T n text
 
 pub data-agree : (S : Setting) (T U : Tree) (n : ℕ) (text : List ℕ) → T .count n ≡ U .count n → dataBytes S T n text ≡ dataBytes S U n text
 unfolding dataBytes
@@ -55,25 +53,22 @@ data-agree S T U n text e =
     ap (λ (mi : ℕ). xorBytes text (pad (S .keys) n 0 mi) ++ sideBytes (S .keys) (xorBytes text (pad (S .keys) n 0 mi)) n 0 mi) e
 
 module _ (S : Setting) (T : Tree) (n : ℕ) (text : List ℕ) (full : length text ≡ 64) where
-  open Setting S using (keys)
+  abbrev tag : ℕ
+  tag = dataTag (S .keys) (cipherOf S T n text) n 0 (T .count n)
 
-  abbrev mi : ℕ
-  mi = T .count n
+  pub length-cipher : length (cipherOf S T n text) ≡ 64
+  length-cipher = length-xor text (padOf S T n) (omega (arith, full, length-pad (S .keys) n 0 (T .count n))) ∙ full
 
-  pub length-cipher : length (xorBytes text (pad keys n 0 mi)) ≡ 64
-  length-cipher = length-xor text (pad keys n 0 mi) (omega (arith, full, length-pad keys n 0 mi)) ∙ full
+  pub length-side : length (sideOf S T n text) ≡ 8
+  length-side = omega (arith, length-digits 256 7 tag)
 
   length-data : length (dataBytes S T n text) ≡ 72
   unfolding dataBytes
-  length-data =
-      let b = xorBytes text (pad keys n 0 mi) in
-      length-append b (sideBytes keys b n 0 mi) ∙ omega (arith, length-cipher, length-digits 256 7 (dataTag keys b n 0 mi))
+  length-data = length-append (cipherOf S T n text) (sideOf S T n text) ∙ omega (arith, length-cipher, length-side)
 
-  phase-data : getD (dataBytes S T n text) 64 0 ≡ phaseOf mi
+  phase-data : getD (dataBytes S T n text) 64 0 ≡ phaseOf (T .count n)
   unfolding dataBytes
-  phase-data =
-      getD-at (xorBytes text (pad keys n 0 mi)) (phaseOf mi)
-      (toLe 7 (dataTag keys (xorBytes text (pad keys n 0 mi)) n 0 mi)) 0 64 length-cipher
+  phase-data = getD-at (cipherOf S T n text) (phaseOf (T .count n)) (toLe 7 tag) 0 64 length-cipher
 
 -- a phase is byte 64 of its line's cell
 phase-in : (a : List ℕ) (x : ℕ) → phaseByte a x ≡ getD (part a (72 * x) 72) 64 0
@@ -133,7 +128,7 @@ module _ {S : Setting} {T : Tree} {a c : List ℕ} {n : ℕ} (w : Reached S T a 
   pub new-root : renewedRoot h keys c p (newBlock c n) ≡ treeRoot S U
   new-root =
       ap (λ (b : List ℕ). renewedRoot h keys c p b) new-block
-      ∙ ap (λ (b : List ℕ). nodeTag keys b h 0) (renewed-fresh path h (le-refl h) ∙ ap (treeNode S U h) (path-top h p page))
+      ∙ ap (λ (b : List ℕ). tagOf S b h 0) (renewed-fresh path h (le-refl h) ∙ ap (treeNode S U h) (path-top h p page))
 
   -- a node off the path is as it was
   off-path : (k i : ℕ) → (i ≡ onPath p k → ⊥) → treeNode S T k i ≡ treeNode S U k i
@@ -166,7 +161,7 @@ module _ {S : Setting} {T : Tree} {a c : List ℕ} {n : ℕ} (w : Reached S T a 
         others = node-apart there;
         rows = lines-apart there (λ (z : _≡_ {A = ℕ} 1 0). omega arith);
         now = λ e. same-part there 64 (omega arith)
-            ∙ take-at (treeNode S U 0 p) (replicate 8 0) 64 (fresh-length keys (U .count) 0 p);
+            ∙ take-at (treeNode S U 0 p) (replicate 8 0) 64 (tree-length S U 0 p);
         stay = λ e. absurd (false≢true (sym e));
       }
   blocked false =
