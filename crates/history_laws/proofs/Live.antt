@@ -37,8 +37,7 @@ module _ (S : Setting) (T : Tree) where
     pub fit : Fit h c
     pub listed : (s : ℕ) → s < slots h → owner c s ≡ shadowOwner h a s
     pub fresh : (s i : ℕ) → s < slots h → owner c s ≡ suc i → content c s ≡ treeNode S T (levelOf s) i
-    pub clean : (s i : ℕ) → s < slots h → owner c s ≡ suc i → dirty c s ≡ 0
-        → nodeIn S a (levelOf s) i ≡ treeNode S T (levelOf s) i
+    pub clean : (s i : ℕ) → s < slots h → owner c s ≡ suc i → dirty c s ≡ 0 → nodeIn S a (levelOf s) i ≡ treeNode S T (levelOf s) i
 
 module _ {S : Setting} {T : Tree} {a c : List ℕ} (v : Live S T a c) where
   open Setting S using (keys, h, high)
@@ -74,8 +73,7 @@ module _ {S : Setting} {T : Tree} {a c : List ℕ} (v : Live S T a c) where
     record Freed (b : List ℕ) : Type 0 where
       durable : Durable S T b
       shadows : (t : ℕ) → t < slots h → shadowOwner h b t ≡ shadowOwner h a t
-      kept : (k j : ℕ) → k ≤ h → j < nodes h k → nodeIn S a k j ≡ treeNode S T k j
-          → nodeIn S b k j ≡ treeNode S T k j
+      kept : (k j : ℕ) → k ≤ h → j < nodes h k → nodeIn S a k j ≡ treeNode S T k j → nodeIn S b k j ≡ treeNode S T k j
       old : (j : ℕ) → j < nodes h l → owner c (slotOf l i) ≡ suc j → nodeIn S b l j ≡ treeNode S T l j
       lower : (k j : ℕ) → k < l → j < nodes h k → nodeIn S b k j ≡ nodeIn S a k j
       rows : (n : ℕ) → n < lines h → part b (72 * n) 72 ≡ part a (72 * n) 72
@@ -174,8 +172,7 @@ module _ {S : Setting} {T : Tree} {a c : List ℕ} (v : Live S T a c) where
     pub own-other : (t : ℕ) → (t ≡ slotOf l i → ⊥) → owner next t ≡ owner c t
     own-other = owner-other h c (v .fit .sized) (slotOf l i) within (suc i) 0 (treeNode S T l i) size
 
-    kept-next : (k j : ℕ) → k ≤ h → j < nodes h k → nodeIn S a k j ≡ treeNode S T k j
-        → nodeIn S array-next k j ≡ treeNode S T k j
+    kept-next : (k j : ℕ) → k ≤ h → j < nodes h k → nodeIn S a k j ≡ treeNode S T k j → nodeIn S array-next k j ≡ treeNode S T k j
     kept-next k j p q e = nodes-kept (freed .durable) vacant k j p q ∙ freed .kept k j p q e
 
     -- data cells stay as they were

@@ -43,12 +43,10 @@ module _ (S : Setting) (T : Tree) where
     pub whole : length a ≡ arrayLength h
     pub small : Small T
     pub owners : Owned h (shadowOwner h a)
-    pub stored : (l i : ℕ) → l ≤ h → i < nodes h l → (shadowOwner h a (slotOf l i) ≡ suc i → ⊥)
-        → nodeIn S a l i ≡ treeNode S T l i
+    pub stored : (l i : ℕ) → l ≤ h → i < nodes h l → (shadowOwner h a (slotOf l i) ≡ suc i → ⊥) → nodeIn S a l i ≡ treeNode S T l i
     pub majors : (p : ℕ) → p < pages h → major (nodeIn S a 0 p) ≡ 0
     pub behind : (p j : ℕ) → p < pages h → j < 64 → minor (nodeIn S a 0 p) j ≤ count (64 * p + j)
-    pub near : (p j : ℕ) → p < pages h → j < 64
-        → count (64 * p + j) ≤ minor (nodeIn S a 0 p) j + phaseOf (count (64 * p + j))
+    pub near : (p j : ℕ) → p < pages h → j < 64 → count (64 * p + j) ≤ minor (nodeIn S a 0 p) j + phaseOf (count (64 * p + j))
     pub phases : (n : ℕ) → n < lines h → phaseByte a n ≡ phaseOf (count n)
 
 -- ---- minors brought forward
@@ -64,8 +62,7 @@ brought b x r = cond b (elim r as (λ z. Option (List ℕ)) [ none ↦ none | so
 module _ (a : List ℕ) {T : Tree} (small : Small T) where
   open Tree T using (count)
 
-  forward-counts : (n : ℕ) (ss : List ℕ)
-      → ((k : ℕ) → k < length ss → (getD ss k 0 ≤ count (n + k)) × (count (n + k) ≤ getD ss k 0 + 3))
+  forward-counts : (n : ℕ) (ss : List ℕ) → ((k : ℕ) → k < length ss → (getD ss k 0 ≤ count (n + k)) × (count (n + k) ≤ getD ss k 0 + 3))
       → ((k : ℕ) → k < length ss → phaseByte a (n + k) ≡ phaseOf (count (n + k)))
       → forwardFrom a n ss ≡ some (countsFrom count n (length ss))
   unfolding forwardFrom countsFrom brought

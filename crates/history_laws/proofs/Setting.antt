@@ -13,7 +13,7 @@ use Rattle.calls.specs.Read.{sideBytes}
 use Rattle.calls.specs.Format.{freshNode, freshRoot}
 use Rattle.calls.specs.History.{Book, changed}
 
--- what stays the same through a history
+-- what stays the same through a history: the keys, 48 bytes, and the depth h
 pub record Setting : Type 0 where
   pub keys : List ℕ
   pub keyed : Below 256 keys

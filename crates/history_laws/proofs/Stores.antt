@@ -201,13 +201,11 @@ module _ {S : Setting} {T : Tree} {a : List ℕ} (m : Durable S T a) where
     unfolding kind
     shadow-kept = shadows-apart w (λ (q : _≡_ {A = ℕ} 1 2). omega arith)
 
-    pub fresh-kept : (k j : ℕ) → k ≤ h → j < nodes h k → nodeIn S a k j ≡ treeNode S T k j
-        → nodeIn S with-node k j ≡ treeNode S T k j
+    pub fresh-kept : (k j : ℕ) → k ≤ h → j < nodes h k → nodeIn S a k j ≡ treeNode S T k j → nodeIn S with-node k j ≡ treeNode S T k j
     fresh-kept k j p q e = node-cases (λ b. b ≡ treeNode S T k j) k j p q refl e
 
     -- nodes of another level stay
-    pub other-level : (k j : ℕ) → k ≤ h → j < nodes h k → (k ≡ l → ⊥)
-        → nodeIn S with-node k j ≡ nodeIn S a k j
+    pub other-level : (k j : ℕ) → k ≤ h → j < nodes h k → (k ≡ l → ⊥) → nodeIn S with-node k j ≡ nodeIn S a k j
     unfolding first
     other-level k j p q z = node-apart w k j p q (λ e. z (ap first e))
 

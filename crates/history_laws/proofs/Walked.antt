@@ -45,8 +45,7 @@ module _ {S : Setting} (T : Tree) {base : List ℕ} (ok : Array S base) where
     live : Live S T (put-cells a cells) cache
     held : owner cache (slotOf l i) ≡ suc i
     others : (k j : ℕ) → (k ≡ l → ⊥) → owner cache (slotOf k j) ≡ owner c (slotOf k j)
-    lower : (k j : ℕ) → k < l → j < nodes h k
-        → nodeIn S (put-cells a cells) k j ≡ nodeIn S a k j
+    lower : (k j : ℕ) → k < l → j < nodes h k → nodeIn S (put-cells a cells) k j ≡ nodeIn S a k j
     rows : (n : ℕ) → n < lines h → part (put-cells a cells) (72 * n) 72 ≡ part a (72 * n) 72
 
   module _ {a c : List ℕ} (v : Live S T a c) (l i : ℕ) (lh : l ≤ h) (inside : i < nodes h l) (top : owner c (topSlot h) ≡ 0 → l ≡ h)
@@ -133,8 +132,7 @@ module _ {S : Setting} (T : Tree) {base : List ℕ} (ok : Array S base) where
       few : n ≤ suc h
       live : Live S T (put-cells base x) c
       -- the array lower down is as it was
-      lower : (k j : ℕ) → k < n → j < nodes h k
-          → nodeIn S base k j ≡ nodeIn S (put-cells base x) k j
+      lower : (k j : ℕ) → k < n → j < nodes h k → nodeIn S base k j ≡ nodeIn S (put-cells base x) k j
       top : owner c (topSlot h) ≡ 0 → n ≡ suc h
       -- the tag that the highest of them must have
       tag : (l : ℕ) → n ≡ suc l → t ≡ tagOf S (treeNode S T l (onPath p l)) l (onPath p l)

@@ -142,8 +142,7 @@ module _ {S : Setting} {T : Tree} {a c : List ℕ} {n : ℕ} (w : Reached S T a 
   record Blocked (stop : Bool) (b : List ℕ) : Type 0 where
     whole : length b ≡ arrayLength h
     shadows : (s : ℕ) → s < slots h → shadowOwner h b s ≡ shadowOwner h a s
-    others : (k i : ℕ) → k ≤ h → i < nodes h k → (node k i ≡ node 0 p → ⊥)
-        → nodeIn S b k i ≡ nodeIn S a k i
+    others : (k i : ℕ) → k ≤ h → i < nodes h k → (node k i ≡ node 0 p → ⊥) → nodeIn S b k i ≡ nodeIn S a k i
     rows : (x : ℕ) → x < lines h → part b (72 * x) 72 ≡ part a (72 * x) 72
     now : stop ≡ true → nodeIn S b 0 p ≡ treeNode S U 0 p
     stay : stop ≡ false → nodeIn S b 0 p ≡ nodeIn S a 0 p
@@ -216,8 +215,7 @@ module _ {S : Setting} {T : Tree} {a c : List ℕ} {n : ℕ} (w : Reached S T a 
     unfolding kind
     kept = nodes-apart its-cell (λ (z : _≡_ {A = ℕ} 0 1). omega arith)
 
-    others : (k i : ℕ) → k ≤ h → i < nodes h k → (node k i ≡ node 0 p → ⊥)
-        → nodeIn S written k i ≡ nodeIn S a k i
+    others : (k i : ℕ) → k ≤ h → i < nodes h k → (node k i ≡ node 0 p → ⊥) → nodeIn S written k i ≡ nodeIn S a k i
     others k i q r e = kept k i q r ∙ b .others k i q r e
 
     pub row-other : (x : ℕ) → x < lines h → (x ≡ n → ⊥) → part written (72 * x) 72 ≡ part a (72 * x) 72
@@ -231,8 +229,7 @@ module _ {S : Setting} {T : Tree} {a c : List ℕ} {n : ℕ} (w : Reached S T a 
 
     -- a page's block: the new one where it is stored, else the array's
     page-cases : (P : List ℕ → Type 0) (q : ℕ) → q < pages h → (q ≡ p → P (treeNode S U 0 q))
-        → ((q ≡ p → stop ≡ false) → P (nodeIn S a 0 q))
-        → P (nodeIn S written 0 q)
+        → ((q ≡ p → stop ≡ false) → P (nodeIn S a 0 q)) → P (nodeIn S written 0 q)
     unfolding second
     page-cases P q r new old = go (eq-or-not q p) stop refl
       where
@@ -280,8 +277,7 @@ module _ {S : Setting} {T : Tree} {a c : List ℕ} {n : ℕ} (w : Reached S T a 
         go : (x ≡ n) ⊎ (x ≡ n → ⊥) → getD (part written (72 * x) 72) 64 0 ≡ phaseOf (U .count x)
         go (inl z) =
             ap (λ (k : ℕ). getD (part written (72 * k) 72) 64 0) z ∙ ap (λ (l : List ℕ). getD l 64 0) row-same
-            ∙ phase-data S U n text (t .full)
-            ∙ sym (ap phaseOf (ap (U .count) z))
+            ∙ phase-data S U n text (t .full) ∙ sym (ap phaseOf (ap (U .count) z))
         go (inr z) =
             ap (λ (l : List ℕ). getD l 64 0) (row-other x q z) ∙ sym (phase-in a x) ∙ v .durable .phases x q ∙ ap phaseOf (other x z)
 
@@ -327,8 +323,7 @@ module _ {S : Setting} {T : Tree} {a c : List ℕ} {n : ℕ} (w : Reached S T a 
     spot s = slotOf (levelOf s) (onPath p (levelOf s))
 
     -- a slot on the path, and one off it
-    on-path : (s : ℕ) → s < slots h → s ≡ spot s → (P : ℕ → ℕ → Type 0)
-        → ((k : ℕ) → k ≤ h → P (slotOf k (onPath p k)) k) → P s (levelOf s)
+    on-path : (s : ℕ) → s < slots h → s ≡ spot s → (P : ℕ → ℕ → Type 0) → ((k : ℕ) → k ≤ h → P (slotOf k (onPath p k)) k) → P s (levelOf s)
     on-path s q e P each = subst (λ (t : ℕ). P t (levelOf s)) (sym e) (each (levelOf s) (level-within h s q))
 
     off-slot : (s : ℕ) → (s ≡ spot s → ⊥) → (k : ℕ) → k ≤ h → s ≡ slotOf k (onPath p k) → ⊥
@@ -389,8 +384,7 @@ module _ {S : Setting} {T : Tree} {a c : List ℕ} {n : ℕ} (w : Reached S T a 
         stored-flag true e = refl
         stored-flag false e = absurd (let z : _≡_ {A = ℕ} 1 0 = e in omega arith)
 
-    clean-written : (s i : ℕ) → s < slots h → owner cache-written s ≡ suc i → dirty cache-written s ≡ 0
-        → (s ≡ spot s) ⊎ (s ≡ spot s → ⊥)
+    clean-written : (s i : ℕ) → s < slots h → owner cache-written s ≡ suc i → dirty cache-written s ≡ 0 → (s ≡ spot s) ⊎ (s ≡ spot s → ⊥)
         → nodeIn S written (levelOf s) i ≡ treeNode S U (levelOf s) i
     unfolding first second
     clean-written s i q o z (inl e) =
