@@ -110,17 +110,19 @@ module _ {S : Setting} {T : Tree} {a : List ℕ} (m : Durable S T a) where
       (λ k r. (m .behind p k q (omega arith), omega (arith, m .near p k q (omega arith)))) (λ k r. m .phases (64 * p + k) (omega arith))
       ∙ ap (λ (n : ℕ). some (countsFrom count (64 * p) n)) size
 
+  -- what the block of a page adds to the sum brought forward
+  unfoldable pub pageSum : ℕ → ℕ
+  pageSum p = total (countsFrom count (64 * p) 64) - total (minors (block p))
+
   block-built : (c : List ℕ) (sum s p : ℕ) → p < pages h
-      → rebuildBlock h a c sum s p
-      ≡ rebuilt (withSlot c s (suc p) 1 (treeNode S T 0 p)) (sum + (total (countsFrom count (64 * p) 64) - total (minors (block p))))
-  unfolding rebuildBlock freshNode
+      → rebuildBlock h a c sum s p ≡ rebuilt (withSlot c s (suc p) 1 (treeNode S T 0 p)) (sum + pageSum p)
+  unfolding rebuildBlock freshNode pageSum
   block-built c sum s p q =
       ap (λ (r : Option (List ℕ)). elim r as (λ z. Rebuilt) [
         | none ↦ damaged
         | some ms ↦ rebuilt (withSlot c s (suc p) 1 (counterBlock (major (block p)) ms)) (sum + (total ms - total (minors (block p))))
       ]) (forwarded p q)
-      ∙ ap (λ (k : ℕ). rebuilt (withSlot c s (suc p) 1 (counterBlock k (countsFrom count (64 * p) 64)))
-      (sum + (total (countsFrom count (64 * p) 64) - total (minors (block p))))) (m .majors p q)
+      ∙ ap (λ (k : ℕ). rebuilt (withSlot c s (suc p) 1 (counterBlock k (countsFrom count (64 * p) 64))) (sum + pageSum p)) (m .majors p q)
 
   -- ---- the cache, slot by slot
 
@@ -267,10 +269,7 @@ module _ {S : Setting} {T : Tree} {a : List ℕ} (m : Durable S T a) where
   abbrev listing : ℕ → ℕ → List ℕ
   listing s n = from (shadowOwner h a) s n
 
-  -- what the block of a page, and the owner of a slot, adds to the sum brought forward
-  unfoldable pub pageSum : ℕ → ℕ
-  pageSum p = total (countsFrom count (64 * p) 64) - total (minors (nodeIn S a 0 p))
-
+  -- what the owner of a slot adds to the sum
   unfoldable pub added : ℕ → ℕ
   added zero = 0
   added (suc p) = pageSum p
@@ -279,8 +278,8 @@ module _ {S : Setting} {T : Tree} {a : List ℕ} (m : Durable S T a) where
   unfolding added
   owner-none o sum e = sym (ap (λ (k : ℕ). sum + added k) e ∙ add-zero sum)
 
-  owner-some : (o p sum : ℕ) → o ≡ suc p → sum + (total (countsFrom count (64 * p) 64) - total (minors (block p))) ≡ sum + added o
-  unfolding added pageSum
+  owner-some : (o p sum : ℕ) → o ≡ suc p → sum + pageSum p ≡ sum + added o
+  unfolding added
   owner-some o p sum e = sym (ap (λ (k : ℕ). sum + added k) e)
 
   -- counter slots from s on
