@@ -212,6 +212,13 @@ pub record Owned (h : ℕ) (f : ℕ → ℕ) : Type 0 where
   pub belong : (s i : ℕ) → s < slots h → f s ≡ suc i → belongs h s (suc i) ≡ true
   pub top : f (topSlot h) ≡ 0 → (s : ℕ) → s < slots h → f s ≡ 0
 
+pub owned-same : {h : ℕ} {f g : ℕ → ℕ} → Owned h f → ((s : ℕ) → s < slots h → g s ≡ f s) → Owned h g
+owned-same {h} o e =
+    record {
+      belong = λ s i p q. o .belong s i p (sym (e s p) ∙ q);
+      top = λ z s p. e s p ∙ o .top (sym (e (topSlot h) (slot-within h h 0 (le-refl h))) ∙ z) s p;
+    }
+
 pub owned : (h : ℕ) (f : ℕ → ℕ) → badSlot h (from f 0 (slots h)) ≡ Nothing → Owned h f
 unfolding isNothing
 owned h f e =

@@ -19,13 +19,14 @@ use Rattle.cache.specs.declared.Found.{Found}
 use Rattle.cache.specs.declared.Found.the-variants.{Nothing, At}
 use Rattle.cache.specs.Cache.{shadowOwners, current, badSlot, emptyCache}
 use Rattle.tag.specs.Tag.{nodeTag}
-use Rattle.journal.specs.Journal.{Store, storeAll, made, pendingStores, batchStores}
+use Rattle.journal.specs.Journal.{Store, storeAll, pendingStores, batchStores}
 use Rattle.journal.proofs.Laws.{made-all, less-cut, cut-made}
 use Rattle.calls.specs.Path.{Loaded, loaded, differs}
 use Rattle.calls.specs.Call.{Module, Called, mediaOf, withMedia, refuse, storing, accessRefusal, pathOf}
 use Rattle.calls.specs.Read.{answered, refusedRead, lineMinor, sideOk, lineText, readLoaded, readPath, readJudged, read}
 use Rattle.calls.specs.Write.{writeStores, writtenCache, writeLoaded, writePath, writeJudged, write}
-use Rattle.calls.specs.Recovery.{Rebuilt, rebuilt, damaged, rebuildBlocks, rebuildNodes, recoveryRefusal, recoverRoot, recoverRebuilt, recoverShadow, recoverMedia, recoverJudged, recover}
+use Rattle.calls.specs.Recovery.{Rebuilt, rebuilt, damaged, rebuildBlocks, rebuildNodes, recoveryRefusal}
+use Rattle.calls.specs.Recovery.{recoverRoot, recoverRebuilt, recoverShadow, recoverMedia, recoverJudged, recover}
 use Rattle.calls.specs.History.{NotCut}
 
 -- a call as a function of its allowance
@@ -84,7 +85,8 @@ refused-limited m n x y =
     limited (λ a. refuse m n x y) 0 (refuse m n x y)
     (record { less = λ a h. absurd (not-suc-le-zero h); rest = λ a h. refl; all = refl; not = refused-not n 0 x y })
 
-cut-answer : (a : ℕ) (m : Module) (xs : List Store) (answer : Answer) (c : List ℕ) → a < length xs → (storing a m xs answer c) .answer ≡ Cut a
+cut-answer : (a : ℕ) (m : Module) (xs : List Store) (answer : Answer) (c : List ℕ) → a < length xs
+    → (storing a m xs answer c) .answer ≡ Cut a
 unfolding storing
 cut-answer a m xs answer c h = rw (less-cut a xs h, cut-made a xs h)
 
@@ -180,35 +182,38 @@ module _ (keys : List ℕ) (k : ℕ) (m : Module) where
   tells-rebuilt os (rebuilt d sum) =
       let h = depth (m .control) in
       let c = rebuildNodes h keys (m .array) 4 (drop 4 os) d in
-      tells-root (eqb (nodeTag keys (current h (m .array) c h 0) h 0) (root (m .control))) sum (record { array = m .array; control = m .control; cache = c })
+      tells-root (eqb (nodeTag keys (current h (m .array) c h 0) h 0) (root (m .control))) sum
+      (record { array = m .array; control = m .control; cache = c })
 
   tells-shadow : (os : List ℕ) (f : Found) → Tells (recoverShadow keys k m os f)
   unfolding recoverShadow
   tells-shadow os (At s) = tells-refused 27 s
-  tells-shadow os Nothing = tells-rebuilt os (rebuildBlocks (depth (m .control)) (m .array) 0 (take 4 os) (emptyCache (depth (m .control))) 0)
+  tells-shadow os Nothing =
+      tells-rebuilt os (rebuildBlocks (depth (m .control)) (m .array) 0 (take 4 os) (emptyCache (depth (m .control))) 0)
 
   tells-media : Tells (recoverMedia keys k m)
-  tells-media = tells-shadow (shadowOwners (depth (m .control)) (m .array)) (badSlot (depth (m .control)) (shadowOwners (depth (m .control)) (m .array)))
+  tells-media =
+      tells-shadow (shadowOwners (depth (m .control)) (m .array))
+      (badSlot (depth (m .control)) (shadowOwners (depth (m .control)) (m .array)))
 
 module _ (keys : List ℕ) (m : Module) where
-  -- the media with the first pending stores that an allowance makes
-  pendingMade : ℕ → Module
-  pendingMade a = withMedia (storeAll (mediaOf m) (made a (pendingStores (m .control)))) (m .cache)
+  abbrev xs : List Store
+  xs = pendingStores (m .control)
 
-  recover-cut : (a : ℕ) → a < length (pendingStores (m .control)) → (recoverJudged 0 keys a m) .answer ≡ Cut a
+  recover-cut : (a : ℕ) → a < length xs → (recoverJudged 0 keys a m) .answer ≡ Cut a
   unfolding recoverJudged
-  recover-cut a h = rw (less-cut a (pendingStores (m .control)) h, cut-made a (pendingStores (m .control)) h)
+  recover-cut a h = rw (less-cut a xs h, cut-made a xs h)
 
-  recover-full : (a : ℕ) → length (pendingStores (m .control)) ≤ a
-      → recoverJudged 0 keys a m ≡ recoverMedia keys (length (pendingStores (m .control))) (withMedia (storeAll (mediaOf m) (pendingStores (m .control))) (m .cache))
+  recover-full : (a : ℕ) → length xs ≤ a
+      → recoverJudged 0 keys a m ≡ recoverMedia keys (length xs) (withMedia (storeAll (mediaOf m) xs) (m .cache))
   unfolding recoverJudged
-  recover-full a h = rw (le-ltb a (length (pendingStores (m .control))) h, made-all a (pendingStores (m .control)) h)
+  recover-full a h = rw (le-ltb a (length xs) h, made-all a xs h)
 
   recover-judged : (n : ℕ) → Limited (λ a. recoverJudged n keys a m)
   unfolding recoverJudged
   recover-judged zero =
-      let n = length (pendingStores (m .control)) in
-      let d = withMedia (storeAll (mediaOf m) (pendingStores (m .control))) (m .cache) in
+      let n = length xs in
+      let d = withMedia (storeAll (mediaOf m) xs) (m .cache) in
       limited (λ a. recoverJudged 0 keys a m) n (recoverMedia keys n d)
       (record { less = recover-cut; rest = recover-full; all = (tells-media keys n d) .stores; not = (tells-media keys n d) .not })
   recover-judged (suc n) = refused-limited m (suc n) 0 0

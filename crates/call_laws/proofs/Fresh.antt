@@ -37,19 +37,33 @@ unfolding nodeCells
 node-cells-length keys l i zero = refl
 node-cells-length keys l i (suc n) =
     let b = freshNode keys (λ x. 0) l i in
-    omega (arith, length-append (b ++ replicate 8 0) (nodeCells keys l (suc i) n), length-append b (replicate 8 0), length-replicate {A = ℕ} 8 0, fresh-length keys (λ x. 0) l i, node-cells-length keys l (suc i) n)
+    omega (
+      arith,
+      length-append (b ++ replicate 8 0) (nodeCells keys l (suc i) n),
+      length-append b (replicate 8 0),
+      length-replicate {A = ℕ} 8 0,
+      fresh-length keys (λ x. 0) l i,
+      node-cells-length keys l (suc i) n,
+    )
 
 node-cells-bytes : (keys : List ℕ) (l i n : ℕ) → Below 256 (nodeCells keys l i n)
 unfolding nodeCells
 node-cells-bytes keys l i zero = below-nil (lit< tt)
 node-cells-bytes keys l i (suc n) =
-    below-append _ (nodeCells keys l (suc i) n) (below-append _ (replicate 8 0) (fresh-bytes keys (λ x. 0) l i) (zeros-bytes 8)) (node-cells-bytes keys l (suc i) n)
+    below-append _ (nodeCells keys l (suc i) n) (below-append _ (replicate 8 0) (fresh-bytes keys (λ x. 0) l i) (zeros-bytes 8))
+    (node-cells-bytes keys l (suc i) n)
 
-pub level-cells-length : (keys : List ℕ) (h n : ℕ) (rest : List ℕ) → length (levelCells keys h n rest) + 72 * lines h ≡ 72 * levelStart h n + length rest
+pub level-cells-length : (keys : List ℕ) (h n : ℕ) (rest : List ℕ)
+    → length (levelCells keys h n rest) + 72 * lines h ≡ 72 * levelStart h n + length rest
 unfolding levelCells levelStart
 level-cells-length keys h zero rest = omega arith
 level-cells-length keys h (suc l) rest =
-    omega (arith, level-cells-length keys h l (nodeCells keys l 0 (nodes h l) ++ rest), length-append (nodeCells keys l 0 (nodes h l)) rest, node-cells-length keys l 0 (nodes h l))
+    omega (
+      arith,
+      level-cells-length keys h l (nodeCells keys l 0 (nodes h l) ++ rest),
+      length-append (nodeCells keys l 0 (nodes h l)) rest,
+      node-cells-length keys l 0 (nodes h l),
+    )
 
 level-cells-bytes : (keys : List ℕ) (h n : ℕ) (rest : List ℕ) → Below 256 rest → Below 256 (levelCells keys h n rest)
 unfolding levelCells
@@ -61,11 +75,19 @@ pub array-length : (keys : List ℕ) (h : ℕ) → length (freshArray keys h) �
 unfolding freshArray arrayLength cells shadowStart
 array-length keys h =
     let rest = levelCells keys h (suc h) (replicate (72 * shadowCells h) 0) in
-    omega (arith, length-append (replicate (72 * lines h) 0) rest, length-replicate {A = ℕ} (72 * lines h) 0, length-replicate {A = ℕ} (72 * shadowCells h) 0, level-cells-length keys h (suc h) (replicate (72 * shadowCells h) 0))
+    omega (
+      arith,
+      length-append (replicate (72 * lines h) 0) rest,
+      length-replicate {A = ℕ} (72 * lines h) 0,
+      length-replicate {A = ℕ} (72 * shadowCells h) 0,
+      level-cells-length keys h (suc h) (replicate (72 * shadowCells h) 0),
+    )
 
 pub array-bytes : (keys : List ℕ) (h : ℕ) → Below 256 (freshArray keys h)
 unfolding freshArray
-array-bytes keys h = below-append (replicate (72 * lines h) 0) _ (zeros-bytes (72 * lines h)) (level-cells-bytes keys h (suc h) _ (zeros-bytes (72 * shadowCells h)))
+array-bytes keys h =
+    below-append (replicate (72 * lines h) 0) _ (zeros-bytes (72 * lines h))
+    (level-cells-bytes keys h (suc h) _ (zeros-bytes (72 * shadowCells h)))
 
 pub control-length : (h r : ℕ) → length (freshControl h r) ≡ controlLength
 unfolding freshControl digits
@@ -76,7 +98,8 @@ unfolding freshControl
 control-bytes h r p =
     below-append (toLe 4 mark ++ (1 ∷ h ∷ 1 ∷ []) ++ toLe 8 r) (replicate 649 0)
     (below-append (toLe 4 mark ++ (1 ∷ h ∷ 1 ∷ [])) (toLe 8 r)
-    (below-append (toLe 4 mark) (1 ∷ h ∷ 1 ∷ []) (below-digits 256 4 mark (lit< tt)) (below-cons (lit< tt) (below-cons p (below-cons (lit< tt) (below-nil (lit< tt))))))
+    (below-append (toLe 4 mark) (1 ∷ h ∷ 1 ∷ []) (below-digits 256 4 mark (lit< tt))
+    (below-cons (lit< tt) (below-cons p (below-cons (lit< tt) (below-nil (lit< tt))))))
     (below-digits 256 8 r (lit< tt)))
     (zeros-bytes 649)
 
@@ -89,13 +112,18 @@ formatted-kept keys h m ok =
       array = array-length keys h ∙ sym (ok .fits .array);
       control = control-length h (freshRoot keys (λ x. 0) h) ∙ sym (ok .record664);
       cache = length-empty h ∙ sym (ok .fits .cache);
-      bytes = record { array = array-bytes keys h; control = control-bytes h (freshRoot keys (λ x. 0) h) (omega (arith, ok .high)); cache = below-empty h };
+      bytes = record {
+        array = array-bytes keys h;
+        control = control-bytes h (freshRoot keys (λ x. 0) h) (omega (arith, ok .high));
+        cache = below-empty h;
+      };
     }
 
 pub format-kept : (keys : List ℕ) (h : ℕ) (m : Module) → Bytes m → Kept m ((format keys h m) .after)
 unfolding format
 format-kept keys h m b = go (formatRefusal keys h m) refl
   where
-    go : (k : ℕ) → formatRefusal keys h m ≡ k → Kept m ((elim k as (λ z. Called) [ zero ↦ formatted keys h | suc n ↦ refuse m (suc n) 0 0 ]) .after)
+    go : (k : ℕ) → formatRefusal keys h m ≡ k
+        → Kept m ((elim k as (λ z. Called) [ zero ↦ formatted keys h | suc n ↦ refuse m (suc n) 0 0 ]) .after)
     go zero e = formatted-kept keys h m (format-accepted keys h m e)
     go (suc k) e = kept-same m b

@@ -89,7 +89,8 @@ unfolding recoveryRefusal
 recovery-opened keys m e = opened keys m [] e .0
 
 -- where the first tests pass, the others judge
-pub opened-on : {keys : List ℕ} {m : Module} (ys : List (Bool × ℕ)) {r : ℕ} → Opened keys m → r ≡ judged ys → r ≡ judged (openingTests keys m ++ ys)
+pub opened-on : {keys : List ℕ} {m : Module} (ys : List (Bool × ℕ)) {r : ℕ} → Opened keys m → r ≡ judged ys
+    → r ≡ judged (openingTests keys m ++ ys)
 opened-on ys o e =
     on _ _ _ (unlike-false (o .keys48)) (on _ _ _ (unlike-false (o .record664)) (on _ _ _ (ap not (o .right))
     (on _ _ _ (unlike-false (o .fits .array)) (on _ _ _ (unlike-false (o .fits .cache)) e))))
@@ -103,10 +104,7 @@ pub record Entered (keys : List ℕ) (line : ℕ) (b : List ℕ) (m : Module) : 
 
 -- and 23
 pub record Accepted (keys : List ℕ) (line : ℕ) (b : List ℕ) (m : Module) : Type 0 where
-  pub opening : Opened keys m
-  pub buffer : length b ≡ 64
-  pub inside : line < lines (depth (m .control))
-  pub idle : count (m .control) ≡ 0
+  pub entry : Entered keys line b m
   pub shaped : formed (depth (m .control)) (m .cache) ≡ true
 
 module _ (keys : List ℕ) (line : ℕ) (b : List ℕ) (m : Module) where
@@ -134,13 +132,7 @@ module _ (keys : List ℕ) (line : ℕ) (b : List ℕ) (m : Module) where
   access-accepted e =
       let p = entered _ e in
       let q = passed (not (formed (depth (m .control)) (m .cache))) 22 [] (p .1) in
-      record {
-        opening = p .0 .opening;
-        buffer = p .0 .buffer;
-        inside = p .0 .inside;
-        idle = p .0 .idle;
-        shaped = not-false _ (q .test);
-      }
+      record { entry = p .0; shaped = not-false _ (q .test) }
 
   -- a refusal before 23
   pub entry-refused : {n : ℕ} → n ≡ entryRefusal keys line b m → (n ≡ 0 → ⊥) → n ≡ accessRefusal keys line b m

@@ -33,9 +33,11 @@ use Rattle.pad.specs.Pad.{pad, xorBytes}
 use Rattle.pad.proofs.Nonce.{length-pad, below-pad}
 use Rattle.pad.proofs.Xor.{length-xor, below-xor}
 use Rattle.calls.specs.Call.{Module, Called, mediaOf, withMedia, refuse, storing, pathOf, accessRefusal}
-use Rattle.calls.specs.Read.{Reading, answered, pageBlock, lineMinor, refusedRead, sideBytes, sideOk, lineText, readLoaded, readPath, readJudged, read}
-use Rattle.calls.specs.Write.{newMinor, newBlock, stopLoss, dataCell, writeBatch, writeStores, writtenCache, writeLoaded, writePath, writeJudged, write}
-use Rattle.call_laws.proofs.Judged.{Accepted, access-accepted, head-of}
+use Rattle.calls.specs.Read.{Reading, answered, pageBlock, lineMinor, refusedRead, sideBytes}
+use Rattle.calls.specs.Read.{sideOk, lineText, readLoaded, readPath, readJudged, read}
+use Rattle.calls.specs.Write.{newMinor, newBlock, stopLoss, dataCell, writeBatch, writeStores}
+use Rattle.calls.specs.Write.{writtenCache, writeLoaded, writePath, writeJudged, write}
+use Rattle.call_laws.proofs.Judged.{Opened, Accepted, access-accepted, head-of}
 use Rattle.call_laws.proofs.Loads.{Sound, Fit, Loads, LoadsIf, path-loads, sound-node, zeros-bytes}
 
 -- the buffers of a module hold bytes
@@ -69,18 +71,36 @@ pub array-cells : (h : ℕ) (n : ℕ) → n ≡ arrayLength h → n / 72 ≡ cel
 unfolding arrayLength
 array-cells h n e = ap (λ (k : ℕ). k / 72) e ∙ mul-div-cancel-left (cells h) (lit< tt)
 
+-- what a read keeps: the buffers, and the output's length and bytes
+pub record ReadKept (m : Module) (out : List ℕ) (r : Reading) : Type 0 where
+  pub buffers : Kept m (r .called .after)
+  pub length-output : length (r .output) ≡ length out
+  pub bytes-output : Below 256 (r .output)
+
+refused-read : (m : Module) (b : Bytes m) (out : List ℕ) → Below 256 out → (n x y : ℕ) → ReadKept m out (refusedRead (refuse m n x y) out)
+refused-read m b out p n x y = record { buffers = kept-same m b; length-output = refl; bytes-output = p }
+
+-- a module of depth h, its cache aside
+pub record Buffers (h : ℕ) (m : Module) : Type 0 where
+  pub bytes : Bytes m
+  pub high : h ≤ 3
+  pub whole : length (m .array) ≡ arrayLength h
+  pub record664 : length (m .control) ≡ controlLength
+
 -- stores of sound cells, as far as an allowance goes
-module _ (m : Module) (b : Bytes m) (h : ℕ) (high : h ≤ 3) (whole : length (m .array) ≡ arrayLength h) (record664 : length (m .control) ≡ controlLength) where
+module _ {h : ℕ} {m : Module} (w : Buffers h m) where
+  open Buffers w using (bytes, high, whole, record664)
+
   pub media-formed : Media·Formed (length (m .array)) (mediaOf m)
-  media-formed = record { array-length = refl; control-length = record664; array-bytes = b .array; control-bytes = b .control }
+  media-formed = record { array-length = refl; control-length = record664; array-bytes = bytes .array; control-bytes = bytes .control }
 
   batch-within : {xs : List Cell} (r : ℕ) → Each (Sound h) xs → length xs ≤ 8 → Each (Within (length (m .array) / 72)) (batchStores xs r)
   batch-within r s few = rw (array-cells h (length (m .array)) whole) (within-batch (cells h) r (wholes h high s) (in-map h s) few)
 
-  pub after-stores : (a : ℕ) {xs : List Store} (c : List ℕ) → Each (Within (length (m .array) / 72)) xs → length c ≡ length (m .cache) → Below 256 c
-      → Kept m (withMedia (storeAll (mediaOf m) (made a xs)) c)
-  after-stores a c w e p =
-      let f = made-kept a media-formed w in
+  pub after-stores : (a : ℕ) {xs : List Store} (c : List ℕ) → Each (Within (length (m .array) / 72)) xs → length c ≡ length (m .cache)
+      → Below 256 c → Kept m (withMedia (storeAll (mediaOf m) (made a xs)) c)
+  after-stores a c s e p =
+      let f = made-kept a media-formed s in
       record {
         array = f .array-length;
         control = f .control-length ∙ sym record664;
@@ -91,15 +111,19 @@ module _ (m : Module) (b : Bytes m) (h : ℕ) (high : h ≤ 3) (whole : length (
   storing-kept : (a : ℕ) (xs : List Store) (answer : Answer) (c : List ℕ) → Each (Within (length (m .array) / 72)) xs
       → length c ≡ length (m .cache) → Below 256 c → Kept m ((storing a m xs answer c) .after)
   unfolding storing
-  storing-kept a xs answer c w e p = go (isCut a xs)
+  storing-kept a xs answer c s e p = go (isCut a xs)
     where
-      go : (t : Bool) → Kept m ((cond {A = Called} t (record { answer = Cut (length (made a xs)); after = withMedia (storeAll (mediaOf m) (made a xs)) (m .cache) }) (record { answer = answer; after = withMedia (storeAll (mediaOf m) (made a xs)) c })) .after)
-      go true = after-stores a (m .cache) w refl (b .cache)
-      go false = after-stores a c w e p
+      left : List ℕ → Module
+      left d = withMedia (storeAll (mediaOf m) (made a xs)) d
+
+      go : (t : Bool) → Kept m ((cond {A = Called} t (record { answer = Cut (length (made a xs)); after = left (m .cache) })
+          (record { answer = answer; after = left c })) .after)
+      go true = after-stores a (m .cache) s refl (bytes .cache)
+      go false = after-stores a c s e p
 
 -- ---- the parts of a write
 
-module _ (h : ℕ) (low : 1 ≤ h) (high : h ≤ 3) (c : List ℕ) (fit : Fit h c) where
+module _ {h : ℕ} {c : List ℕ} (fit : Fit h c) where
   slot-content : (l i : ℕ) → l ≤ h → length (content c (slotOf l i)) ≡ 64
   slot-content l i p = content-length c (slotOf l i) (slot-room h (slotOf l i) c (fit .sized) (slot-within h l i p))
 
@@ -108,16 +132,18 @@ module _ (h : ℕ) (low : 1 ≤ h) (high : h ≤ 3) (c : List ℕ) (fit : Fit h 
     unfolding renewed
     renewed-length zero q = size
     renewed-length (suc l) q =
-        length-put (content c (slotOf (suc l) (onPath p (suc l)))) (8 * (onPath p l % 8)) (toLe 8 (nodeTag keys (renewed keys c p b l) l (onPath p l)))
-        (omega (arith, length-digits 256 8 (nodeTag keys (renewed keys c p b l) l (onPath p l)), slot-content (suc l) (onPath p (suc l)) q))
-        ∙ slot-content (suc l) (onPath p (suc l)) q
+        let i = onPath p (suc l) in
+        let t = nodeTag keys (renewed keys c p b l) l (onPath p l) in
+        length-put (content c (slotOf (suc l) i)) (8 * (onPath p l % 8)) (toLe 8 t)
+        (omega (arith, length-digits 256 8 t, slot-content (suc l) i q)) ∙ slot-content (suc l) i q
 
     renewed-bytes : (l : ℕ) → Below 256 (renewed keys c p b l)
     unfolding renewed
     renewed-bytes zero = plain
     renewed-bytes (suc l) =
-        below-put (content c (slotOf (suc l) (onPath p (suc l)))) (8 * (onPath p l % 8)) (toLe 8 (nodeTag keys (renewed keys c p b l) l (onPath p l)))
-        (content-below c (slotOf (suc l) (onPath p (suc l))) (fit .bytes)) (below-digits 256 8 _ (lit< tt))
+        let i = onPath p (suc l) in
+        below-put (content c (slotOf (suc l) i)) (8 * (onPath p l % 8)) (toLe 8 (nodeTag keys (renewed keys c p b l) l (onPath p l)))
+        (content-below c (slotOf (suc l) i) (fit .bytes)) (below-digits 256 8 _ (lit< tt))
 
     module _ (d : ℕ) (flag : d < 256) where
       renew-sized : (l : ℕ) → l ≤ h → length (renewPath keys c p b d l) ≡ cacheLength h
@@ -139,209 +165,199 @@ module _ (h : ℕ) (low : 1 ≤ h) (high : h ≤ 3) (c : List ℕ) (fit : Fit h 
 
 -- ---- the path of an accepted line
 
-module _ (keys : List ℕ) (n : ℕ) (buffer : List ℕ) (m : Module) (b : Bytes m) (ok : Accepted keys n buffer m) where
-  low : 1 ≤ depth (m .control)
-  low = head-of keys m (ok .opening) .deep
+-- a call that is not refused for its inputs, all of them bytes; the buffer is its text or its output
+pub record Given (keys : List ℕ) (n : ℕ) (buffer : List ℕ) (m : Module) : Type 0 where
+  pub bytes : Bytes m
+  pub plain : Below 256 buffer
+  pub ok : Accepted keys n buffer m
 
-  high : depth (m .control) ≤ 3
-  high = head-of keys m (ok .opening) .flat
+module _ {keys : List ℕ} {n : ℕ} {buffer : List ℕ} {m : Module} (g : Given keys n buffer m) where
+  open Given g using (bytes, plain, ok)
 
-  LoadedBy : List ℕ → List Cell → Type 0
-  LoadedBy c x = Loads (depth (m .control)) low high keys (m .array) (ok .opening .fits .array) (b .array) (pageOf n) (page-inside (depth (m .control)) n (ok .inside)) c x
+  abbrev h : ℕ
+  h = depth (m .control)
 
-  LoadedIf : Loaded → Type 0
-  LoadedIf r = LoadsIf (depth (m .control)) low high keys (m .array) (ok .opening .fits .array) (b .array) (pageOf n) (page-inside (depth (m .control)) n (ok .inside)) r
+  abbrev opening : Opened keys m
+  opening = ok .entry .opening
 
-  accepted-path : LoadedIf (pathOf keys n m)
-  unfolding LoadedIf
+  page : pageOf n < pages h
+  page = page-inside h n (ok .entry .inside)
+
+  buffers : Buffers h m
+  buffers = record { bytes = bytes; high = head-of keys m opening .flat; whole = opening .fits .array; record664 = opening .record664 }
+
+  accepted-path : LoadsIf h (pathOf keys n m)
   accepted-path =
-      path-loads (depth (m .control)) low high keys (m .array) (ok .opening .fits .array) (b .array) (pageOf n) (page-inside (depth (m .control)) n (ok .inside)) (root (m .control)) (m .cache)
-      (record { sized = ok .opening .fits .cache; formed = formed-facts _ (m .cache) (ok .shaped); bytes = b .cache })
+      path-loads h (head-of keys m opening .deep) (buffers .high) keys (m .array) (opening .fits .array) (bytes .array) (pageOf n) page
+      (root (m .control)) (m .cache)
+      (record { sized = opening .fits .cache; formed = formed-facts _ (m .cache) (ok .shaped); bytes = bytes .cache })
 
-  pub path-few : (c : List ℕ) (x : List Cell) → pathOf keys n m ≡ loaded c x → length x ≤ 2 * depth (m .control)
-  unfolding LoadedIf LoadsIf
-  path-few c x e = (subst LoadedIf e accepted-path) .few
+  pub path-few : (c : List ℕ) (x : List Cell) → pathOf keys n m ≡ loaded c x → length x ≤ 2 * h
+  unfolding LoadsIf
+  path-few c x e = (subst (LoadsIf h) e accepted-path) .few
 
--- ---- write
+  -- ---- write
 
-module _ (keys : List ℕ) (n : ℕ) (text : List ℕ) (m : Module) (b : Bytes m) (plain : Below 256 text) (ok : Accepted keys n text m) where
-  deep : depth (m .control) ≤ 3
-  deep = high keys n text m b ok
+  module _ (c : List ℕ) where
+    abbrev ma : ℕ
+    ma = major (pageBlock c n)
 
-  data-size : (c : List ℕ) → length (dataCell keys n text c .bytes) ≡ 72
-  unfolding dataCell
-  data-size c =
-      let d = xorBytes text (pad keys n (major (pageBlock c n)) (newMinor c n)) in
-      let xored : length d ≡ 64 = length-xor text (pad keys n (major (pageBlock c n)) (newMinor c n)) (rw (length-pad, ok .buffer) (le-refl 64)) ∙ ok .buffer in
-      length-append d (sideBytes keys d n (major (pageBlock c n)) (newMinor c n))
-      ∙ omega (arith, length-digits 256 7 (dataTag keys d n (major (pageBlock c n)) (newMinor c n)))
+    abbrev mi : ℕ
+    mi = newMinor c n
 
-  data-bytes : (c : List ℕ) → Below 256 (dataCell keys n text c .bytes)
-  unfolding dataCell
-  data-bytes c =
-      let p = pad keys n (major (pageBlock c n)) (newMinor c n) in
-      let d = xorBytes text p in
-      below-append d (sideBytes keys d n (major (pageBlock c n)) (newMinor c n)) (below-xor text p plain (below-pad keys n _ _))
-      (below-cons (omega arith) (below-digits 256 7 _ (lit< tt)))
+    data-size : length (dataCell keys n buffer c .bytes) ≡ 72
+    unfolding dataCell
+    data-size =
+        let full = ok .entry .buffer in
+        let d = xorBytes buffer (pad keys n ma mi) in
+        let xored : length d ≡ 64 = length-xor buffer (pad keys n ma mi) (rw (length-pad, full) (le-refl 64)) ∙ full in
+        length-append d (sideBytes keys d n ma mi) ∙ omega (arith, length-digits 256 7 (dataTag keys d n ma mi))
 
-  data-inside : (c : List ℕ) → dataCell keys n text c .number < cells (depth (m .control))
-  unfolding dataCell InMap cellOf
-  data-inside c = cell-within (depth (m .control)) (line n) (ok .inside)
+    data-bytes : Below 256 (dataCell keys n buffer c .bytes)
+    unfolding dataCell
+    data-bytes =
+        let p = pad keys n ma mi in
+        let d = xorBytes buffer p in
+        below-append d (sideBytes keys d n ma mi) (below-xor buffer p plain (below-pad keys n _ _))
+        (below-cons (omega arith) (below-digits 256 7 _ (lit< tt)))
 
-  block-size : (c : List ℕ) → length (newBlock c n) ≡ 64
-  unfolding newBlock
-  block-size c = length-withMinor (pageBlock c n) (placeOf n) (newMinor c n)
+    data-inside : dataCell keys n buffer c .number < cells h
+    unfolding dataCell InMap cellOf
+    data-inside = cell-within h (line n) (ok .entry .inside)
 
-  block-bytes : (c : List ℕ) → Below 256 (newBlock c n)
-  unfolding newBlock
-  block-bytes c = below-withMinor (pageBlock c n) (placeOf n) (newMinor c n)
+    block-size : length (newBlock c n) ≡ 64
+    unfolding newBlock
+    block-size = length-withMinor (pageBlock c n) (placeOf n) mi
 
-  stop-sound : (t : Bool) (c : List ℕ) → Each (Sound (depth (m .control))) (cond t (nodeCell (depth (m .control)) 0 (pageOf n) (newBlock c n) ∷ []) [])
-  unfolding InMap nodes pages
-  stop-sound true c =
-      more (sound-node (depth (m .control)) 0 (pageOf n) (newBlock c n) (zero-le, rw sub-zero (page-inside (depth (m .control)) n (ok .inside))) (block-size c) (block-bytes c)) none
-  stop-sound false c = none
+    block-bytes : Below 256 (newBlock c n)
+    unfolding newBlock
+    block-bytes = below-withMinor (pageBlock c n) (placeOf n) mi
 
-  stop-few : (t : Bool) (c : List ℕ) → length (cond t (nodeCell (depth (m .control)) 0 (pageOf n) (newBlock c n) ∷ []) []) ≤ 1
-  stop-few true c = le-refl 1
-  stop-few false c = zero-le
+    abbrev stopCells : Bool → List Cell
+    stopCells t = cond t (nodeCell h 0 (pageOf n) (newBlock c n) ∷ []) []
 
-  pub batch-sound : (c : List ℕ) (x : List Cell) → Each (Sound (depth (m .control))) x → Each (Sound (depth (m .control))) (writeBatch (depth (m .control)) keys n text c x)
-  unfolding writeBatch
-  batch-sound c x s =
-      each-append (each-append s (stop-sound (stopLoss c n) c)) (more (record { inside = data-inside c; size = data-size c; bytes = data-bytes c }) none)
+    stop-sound : (t : Bool) → Each (Sound h) (stopCells t)
+    unfolding InMap nodes pages
+    stop-sound true = more (sound-node h 0 (pageOf n) (newBlock c n) (zero-le, rw sub-zero page) block-size block-bytes) none
+    stop-sound false = none
 
-  -- the bound on a batch: at most 2h + 2 cells
-  pub batch-bound : (c : List ℕ) (x : List Cell) → length x ≤ 2 * depth (m .control)
-      → length (writeBatch (depth (m .control)) keys n text c x) ≤ 2 * depth (m .control) + 2
-  unfolding writeBatch
-  batch-bound c x few =
-      let stop = cond (stopLoss c n) (nodeCell (depth (m .control)) 0 (pageOf n) (newBlock c n) ∷ []) [] in
-      omega (arith, length-append (x ++ stop) (dataCell keys n text c ∷ []), length-append x stop, stop-few (stopLoss c n) c)
+    stop-few : (t : Bool) → length (stopCells t) ≤ 1
+    stop-few true = le-refl 1
+    stop-few false = zero-le
 
-  loaded-kept : (a : ℕ) (c : List ℕ) (x : List Cell) → LoadedBy keys n text m b ok c x
-      → Kept m ((writeLoaded keys n text a m c x) .after)
-  unfolding writeLoaded writeStores writtenCache LoadedBy
-  loaded-kept a c x l = go (eqb (lineMinor c n) 127)
-    where
-      flag : cond (stopLoss c n) 0 1 < 256
-      flag = small (stopLoss c n)
-        where
-          small : (t : Bool) → cond t 0 1 < 256
-          small true = lit< tt
-          small false = lit< tt
+    pub batch-sound : (x : List Cell) → Each (Sound h) x → Each (Sound h) (writeBatch h keys n buffer c x)
+    unfolding writeBatch
+    batch-sound x s =
+        each-append (each-append s (stop-sound (stopLoss c n)))
+        (more (record { inside = data-inside; size = data-size; bytes = data-bytes }) none)
 
-      go : (t : Bool) → Kept m ((cond {A = Called} t (refuse m 26 0 0)
-          (storing a m (writeStores (depth (m .control)) keys n text c x) (Done (length (writeStores (depth (m .control)) keys n text c x)) 0) (writtenCache (depth (m .control)) keys n c))) .after)
-      go true = kept-same m b
-      go false =
-          storing-kept m b (depth (m .control)) deep (ok .opening .fits .array) (ok .opening .record664) a (writeStores (depth (m .control)) keys n text c x) _
-          (writtenCache (depth (m .control)) keys n c)
-          (batch-within m b (depth (m .control)) deep (ok .opening .fits .array) (ok .opening .record664) _ (batch-sound c x (l .sound)) (omega (arith, batch-bound c x (l .few), deep)))
-          (renew-sized (depth (m .control)) (low keys n text m b ok) deep c (l .fit) keys (pageOf n) (newBlock c n) (block-size c) (block-bytes c) (cond (stopLoss c n) 0 1) flag (depth (m .control)) (le-refl (depth (m .control))) ∙ sym (ok .opening .fits .cache))
-          (renew-bytes (depth (m .control)) (low keys n text m b ok) deep c (l .fit) keys (pageOf n) (newBlock c n) (block-size c) (block-bytes c) (cond (stopLoss c n) 0 1) flag (depth (m .control)) (le-refl (depth (m .control))))
+    -- the bound on a batch: at most 2h + 2 cells
+    pub batch-bound : (x : List Cell) → length x ≤ 2 * h → length (writeBatch h keys n buffer c x) ≤ 2 * h + 2
+    unfolding writeBatch
+    batch-bound x few =
+        let stop = stopCells (stopLoss c n) in
+        omega (arith, length-append (x ++ stop) (dataCell keys n buffer c ∷ []), length-append x stop, stop-few (stopLoss c n))
 
-  path-kept : (a : ℕ) (r : Loaded) → LoadedIf keys n text m b ok r
-      → Kept m ((writePath keys n text a m r) .after)
-  unfolding writePath LoadedIf LoadedBy LoadsIf
-  path-kept a (differs l i) w = kept-same m b
-  path-kept a (loaded c x) w = loaded-kept a c x w
+    loaded-kept : (a : ℕ) (x : List Cell) → Loads h c x → Kept m ((writeLoaded keys n buffer a m c x) .after)
+    unfolding writeLoaded writeStores writtenCache
+    loaded-kept a x l = go (eqb (lineMinor c n) 127)
+      where
+        xs : List Store
+        xs = writeStores h keys n buffer c x
 
-  accepted-kept : (a : ℕ) → Kept m ((writePath keys n text a m (pathOf keys n m)) .after)
-  accepted-kept a = path-kept a (pathOf keys n m) (accepted-path keys n text m b ok)
+        flag : (t : Bool) → cond t 0 1 < 256
+        flag true = lit< tt
+        flag false = lit< tt
 
-judged-path : (keys : List ℕ) (n : ℕ) (text : List ℕ) (a : ℕ) (m : Module) → Kept m ((writePath keys n text a m (pathOf keys n m)) .after)
-    → Kept m ((writeJudged 0 keys n text a m) .after)
-unfolding writeJudged
-judged-path keys n text a m k = k
+        go : (t : Bool)
+            → Kept m ((cond {A = Called} t (refuse m 26 0 0) (storing a m xs (Done (length xs) 0) (writtenCache h keys n c))) .after)
+        go true = kept-same m bytes
+        go false =
+            storing-kept buffers a xs _ (writtenCache h keys n c)
+            (batch-within buffers _ (batch-sound x (l .sound)) (omega (arith, batch-bound x (l .few), buffers .high)))
+            (renew-sized (l .fit) keys (pageOf n) (newBlock c n) block-size block-bytes _ (flag (stopLoss c n)) h (le-refl h)
+            ∙ sym (opening .fits .cache))
+            (renew-bytes (l .fit) keys (pageOf n) (newBlock c n) block-size block-bytes _ (flag (stopLoss c n)) h (le-refl h))
 
-judged-refused : (keys : List ℕ) (n : ℕ) (text : List ℕ) (a : ℕ) (m : Module) (k : ℕ) → Bytes m → Kept m ((writeJudged (suc k) keys n text a m) .after)
-unfolding writeJudged
-judged-refused keys n text a m k b = kept-same m b
+  path-kept : (a : ℕ) (r : Loaded) → LoadsIf h r → Kept m ((writePath keys n buffer a m r) .after)
+  unfolding writePath LoadsIf
+  path-kept a (differs l i) w = kept-same m bytes
+  path-kept a (loaded c x) w = loaded-kept c a x w
 
-pub write-kept : (keys : List ℕ) (n : ℕ) (text : List ℕ) (a : ℕ) (m : Module) → Bytes m → Below 256 text → Kept m ((write keys n text a m) .after)
-write-kept keys n text a m b plain = go (accessRefusal keys n text m) refl
-  where
-    go : (k : ℕ) → accessRefusal keys n text m ≡ k → Kept m ((writeJudged k keys n text a m) .after)
-    go zero e = judged-path keys n text a m (accepted-kept keys n text m b plain (access-accepted keys n text m e) a)
-    go (suc k) e = judged-refused keys n text a m k b
+  -- ---- read
 
--- ---- read
+  abbrev xs-of : List Cell → List Store
+  xs-of x = batchStores x (root (m .control))
 
--- what a read keeps: the buffers, and the output's length and bytes
-pub record ReadKept (m : Module) (out : List ℕ) (r : Reading) : Type 0 where
-  pub buffers : Kept m (r .called .after)
-  pub length-output : length (r .output) ≡ length out
-  pub bytes-output : Below 256 (r .output)
-
-refused-read : (m : Module) (b : Bytes m) (out : List ℕ) → Below 256 out → (n x y : ℕ) → ReadKept m out (refusedRead (refuse m n x y) out)
-refused-read m b out p n x y = record { buffers = kept-same m b; length-output = refl; bytes-output = p }
-
-module _ (keys : List ℕ) (n : ℕ) (out : List ℕ) (m : Module) (b : Bytes m) (plain : Below 256 out) (ok : Accepted keys n out m) where
-  read-deep : depth (m .control) ≤ 3
-  read-deep = high keys n out m b ok
-
-  answered-kept : (a : ℕ) (c : List ℕ) (x : List Cell) (answer : Answer) (text : List ℕ) → Fit (depth (m .control)) c → Each (Sound (depth (m .control))) x → length x ≤ 8
-      → length text ≡ 64 → Below 256 text → ReadKept m out (answered a m (batchStores x (root (m .control))) answer c text out)
+  answered-kept : (a : ℕ) (c : List ℕ) (x : List Cell) (answer : Answer) (text : List ℕ) → Loads h c x → length text ≡ 64 → Below 256 text
+      → ReadKept m buffer (answered a m (xs-of x) answer c text buffer)
   unfolding answered
-  answered-kept a c x answer text f s few size bytes =
+  answered-kept a c x answer text l size b =
       record {
         buffers =
-            storing-kept m b (depth (m .control)) read-deep (ok .opening .fits .array) (ok .opening .record664) a (batchStores x (root (m .control))) answer c
-            (batch-within m b (depth (m .control)) read-deep (ok .opening .fits .array) (ok .opening .record664) (root (m .control)) s few) (f .sized ∙ sym (ok .opening .fits .cache)) (f .bytes);
-        length-output = len (isCut a (batchStores x (root (m .control))));
-        bytes-output = plain-output (isCut a (batchStores x (root (m .control))));
+            storing-kept buffers a (xs-of x) answer c
+            (batch-within buffers (root (m .control)) (l .sound) (omega (arith, l .few, buffers .high)))
+            (l .fit .sized ∙ sym (opening .fits .cache)) (l .fit .bytes);
+        length-output = len (isCut a (xs-of x));
+        bytes-output = plain-output (isCut a (xs-of x));
       }
     where
-      len : (t : Bool) → length (cond t out text) ≡ length out
+      len : (t : Bool) → length (cond t buffer text) ≡ length buffer
       len true = refl
-      len false = size ∙ sym (ok .buffer)
+      len false = size ∙ sym (ok .entry .buffer)
 
-      plain-output : (t : Bool) → Below 256 (cond t out text)
+      plain-output : (t : Bool) → Below 256 (cond t buffer text)
       plain-output true = plain
-      plain-output false = bytes
+      plain-output false = b
 
   text-size : (c : List ℕ) → length (lineText keys (m .array) c n) ≡ 64
   unfolding lineText InMap cellOf
   text-size c =
-      let whole = cell-length (depth (m .control)) (m .array) (line n) (ok .opening .fits .array) (ok .inside) in
-      length-xor (cellContent (m .array) n) (pad keys n (major (pageBlock c n)) (lineMinor c n)) (rw (length-pad, whole) (le-refl 64)) ∙ whole
+      let whole = cell-length h (m .array) (line n) (opening .fits .array) (ok .entry .inside) in
+      length-xor (cellContent (m .array) n) (pad keys n (major (pageBlock c n)) (lineMinor c n)) (rw (length-pad, whole) (le-refl 64))
+      ∙ whole
 
   text-bytes : (c : List ℕ) → Below 256 (lineText keys (m .array) c n)
   unfolding lineText
-  text-bytes c = below-xor (cellContent (m .array) n) _ (cell-below (m .array) n (b .array)) (below-pad keys n _ _)
+  text-bytes c = below-xor (cellContent (m .array) n) _ (cell-below (m .array) n (bytes .array)) (below-pad keys n _ _)
 
-  read-loaded : (a : ℕ) (c : List ℕ) (x : List Cell) → LoadedBy keys n out m b ok c x
-      → ReadKept m out (readLoaded keys n a m out c x)
-  unfolding readLoaded LoadedBy
+  read-loaded : (a : ℕ) (c : List ℕ) (x : List Cell) → Loads h c x → ReadKept m buffer (readLoaded keys n a m buffer c x)
+  unfolding readLoaded
   read-loaded a c x l = go (eqb (lineMinor c n) 0) (sideOk keys (m .array) c n)
     where
-      few : length x ≤ 8
-      few = omega (arith, l .few, read-deep)
+      xs : List Store
+      xs = xs-of x
 
-      go : (t u : Bool) → ReadKept m out (cond t (answered a m (batchStores x (root (m .control))) (Blank (length (batchStores x (root (m .control))))) c (replicate 64 0) out)
-          (cond u (answered a m (batchStores x (root (m .control))) (Done (length (batchStores x (root (m .control)))) 0) c (lineText keys (m .array) c n) out) (refusedRead (refuse m 25 n 0) out)))
-      go true u = answered-kept a c x _ (replicate 64 0) (l .fit) (l .sound) few (length-replicate {A = ℕ} 64 0) (zeros-bytes 64)
-      go false true = answered-kept a c x _ (lineText keys (m .array) c n) (l .fit) (l .sound) few (text-size c) (text-bytes c)
-      go false false = refused-read m b out plain 25 n 0
+      go : (t u : Bool) → ReadKept m buffer (cond t (answered a m xs (Blank (length xs)) c (replicate 64 0) buffer)
+          (cond u (answered a m xs (Done (length xs) 0) c (lineText keys (m .array) c n) buffer) (refusedRead (refuse m 25 n 0) buffer)))
+      go true u = answered-kept a c x _ (replicate 64 0) l (length-replicate {A = ℕ} 64 0) (zeros-bytes 64)
+      go false true = answered-kept a c x _ (lineText keys (m .array) c n) l (text-size c) (text-bytes c)
+      go false false = refused-read m bytes buffer plain 25 n 0
 
-  read-path : (a : ℕ) (r : Loaded) → LoadedIf keys n out m b ok r
-      → ReadKept m out (readPath keys n a m out r)
-  unfolding readPath LoadedIf LoadedBy LoadsIf
-  read-path a (differs l i) w = refused-read m b out plain 24 l i
+  read-path : (a : ℕ) (r : Loaded) → LoadsIf h r → ReadKept m buffer (readPath keys n a m buffer r)
+  unfolding readPath LoadsIf
+  read-path a (differs l i) w = refused-read m bytes buffer plain 24 l i
   read-path a (loaded c x) w = read-loaded a c x w
 
-  read-accepted : (a : ℕ) → ReadKept m out (readJudged 0 keys n a m out)
-  unfolding readJudged
-  read-accepted a = read-path a (pathOf keys n m) (accepted-path keys n out m b ok)
+-- ---- the calls
 
-read-refused : (keys : List ℕ) (n a k : ℕ) (m : Module) (b : Bytes m) (out : List ℕ) → Below 256 out → ReadKept m out (readJudged (suc k) keys n a m out)
-unfolding readJudged
-read-refused keys n a k m b out p = refused-read m b out p (suc k) 0 0
+pub write-kept : (keys : List ℕ) (n : ℕ) (text : List ℕ) (a : ℕ) (m : Module) → Bytes m → Below 256 text
+    → Kept m ((write keys n text a m) .after)
+unfolding writeJudged
+write-kept keys n text a m b plain = go (accessRefusal keys n text m) refl
+  where
+    go : (k : ℕ) → accessRefusal keys n text m ≡ k → Kept m ((writeJudged k keys n text a m) .after)
+    go zero e =
+        let g : Given keys n text m = record { bytes = b; plain = plain; ok = access-accepted keys n text m e } in
+        path-kept g a (pathOf keys n m) (accepted-path g)
+    go (suc k) e = kept-same m b
 
 pub read-kept : (keys : List ℕ) (n a : ℕ) (out : List ℕ) (m : Module) → Bytes m → Below 256 out → ReadKept m out (read keys n a out m)
+unfolding readJudged
 read-kept keys n a out m b plain = go (accessRefusal keys n out m) refl
   where
     go : (k : ℕ) → accessRefusal keys n out m ≡ k → ReadKept m out (readJudged k keys n a m out)
-    go zero e = read-accepted keys n out m b plain (access-accepted keys n out m e) a
-    go (suc k) e = read-refused keys n a k m b out plain
+    go zero e =
+        let g : Given keys n out m = record { bytes = b; plain = plain; ok = access-accepted keys n out m e } in
+        read-path g a (pathOf keys n m) (accepted-path g)
+    go (suc k) e = refused-read m b out plain (suc k) 0 0

@@ -19,7 +19,8 @@ use Rattle.slot_map.proofs.Laws.{slot-within, level-slot}
 use Rattle.tag.specs.Tag.{nodeTag}
 use Rattle.control.specs.Control.{Cell}
 use Rattle.cache.specs.Cache.{owner, dirty, content, withSlot, cellContent, holds, current}
-use Rattle.cache.proofs.Laws.{cell-length, length-with, owner-other, dirty-other, content-same, content-other, current-cached, current-missing}
+use Rattle.cache.proofs.Laws.{cell-length, length-with, owner-other, dirty-other}
+use Rattle.cache.proofs.Laws.{content-same, content-other, current-cached, current-missing}
 use Rattle.calls.specs.Path.{childTag, nodeCell, shadowCell, evicted, Loaded, loaded, differs, loadNode, loadLevels, loadPath}
 use Rattle.call_laws.specs.Walk.{expectedTag, nodeCells, pathCells, withNode, withPath}
 
@@ -66,7 +67,8 @@ module _ (h : ℕ) (high : h ≤ 3) (keys a : List ℕ) (whole : length a ≡ ar
   evicted-like : {n : ℕ} {d : List ℕ} → Like n d → (l i : ℕ) → l < n → evicted h d l (slotOf l i) ≡ evicted h c l (slotOf l i)
   unfolding evicted
   evicted-like {n} {d} s l i q =
-      ap₂ {C = List Cell} (λ (f : ℕ) (o : ℕ). cond (eqb f 1) (nodeCell h l (o - 1) (content d (slotOf l i)) ∷ []) []) (s .flags l i q) (s .owners l i q)
+      ap₂ {C = List Cell} (λ (f : ℕ) (o : ℕ). cond (eqb f 1) (nodeCell h l (o - 1) (content d (slotOf l i)) ∷ []) [])
+      (s .flags l i q) (s .owners l i q)
       ∙ ap (λ (b : List ℕ). cond (eqb (dirty c (slotOf l i)) 1) (nodeCell h l (owner c (slotOf l i) - 1) b ∷ []) []) (s .contents l i q)
 
   module _ (l : ℕ) (lh : l ≤ h) where
@@ -99,16 +101,21 @@ module _ (h : ℕ) (high : h ≤ 3) (keys a : List ℕ) (whole : length a ≡ ar
     like-loaded {d} s =
         record {
           sized = length-with h d (s .sized) _ in-slots _ 0 (stored l) stored-size ∙ s .sized;
-          owners = λ k j q. owner-other h d (s .sized) _ in-slots _ 0 (stored l) stored-size (slotOf k j) (apart k j q) ∙ s .owners k j (omega arith);
-          flags = λ k j q. dirty-other h d (s .sized) _ in-slots _ 0 (stored l) stored-size (slotOf k j) (apart k j q) ∙ s .flags k j (omega arith);
-          contents = λ k j q. content-other h d (s .sized) _ in-slots _ 0 (stored l) stored-size (slotOf k j) (apart k j q) ∙ s .contents k j (omega arith);
+          owners = λ k j q. owner-other h d (s .sized) _ in-slots _ 0 (stored l) stored-size (slotOf k j) (apart k j q)
+              ∙ s .owners k j (omega arith);
+          flags = λ k j q. dirty-other h d (s .sized) _ in-slots _ 0 (stored l) stored-size (slotOf k j) (apart k j q)
+              ∙ s .flags k j (omega arith);
+          contents = λ k j q. content-other h d (s .sized) _ in-slots _ 0 (stored l) stored-size (slotOf k j) (apart k j q)
+              ∙ s .contents k j (omega arith);
         }
 
     -- the node's content, once it is in its slot
-    held-content : {d : List ℕ} → Like (suc l) d → holds c l (onPath p l) ≡ true → content d (slotOf l (onPath p l)) ≡ current h a c l (onPath p l)
+    held-content : {d : List ℕ} → Like (suc l) d → holds c l (onPath p l) ≡ true
+        → content d (slotOf l (onPath p l)) ≡ current h a c l (onPath p l)
     held-content s e = s .contents l (onPath p l) (omega arith) ∙ sym (current-cached h a c l (onPath p l) e)
 
-    loaded-content : {d : List ℕ} → Like (suc l) d → holds c l (onPath p l) ≡ false → content (loadedInto d) (slotOf l (onPath p l)) ≡ current h a c l (onPath p l)
+    loaded-content : {d : List ℕ} → Like (suc l) d → holds c l (onPath p l) ≡ false
+        → content (loadedInto d) (slotOf l (onPath p l)) ≡ current h a c l (onPath p l)
     loaded-content {d} s e =
         content-same h d (s .sized) _ in-slots _ 0 (stored l) stored-size ∙ sym (current-missing h a c l (onPath p l) e)
 
@@ -151,9 +158,12 @@ module _ (h : ℕ) (high : h ≤ 3) (keys a : List ℕ) (whole : length a ≡ ar
         (ih : (u : ℕ) (f : List ℕ) (z : List Cell) → Like l f → Expects l u
         → loadLevels h keys a p l u f z ≡ outcome p (wrong l) (withPath h a p l f) (z ++ pathCells h c p l)) where
       cases : (u v : Bool) → holds c l i ≡ u
-          → (elim (cond u (loaded d []) (cond v (loaded (loadedInto l lh d) y) (differs l i))) as (λ z. Loaded)
-          [ differs k j ↦ differs k j | loaded f w ↦ loadLevels h keys a p l (childTag (content f (slotOf l i)) (onPath p (l - 1))) f (x ++ w) ])
-          ≡ outcome p (cond u (wrong l) (cond v (wrong l) (some l))) (withPath h a p l (cond u d (loadedInto l lh d))) (x ++ (cond u [] y ++ pathCells h c p l))
+          → (elim (cond u (loaded d []) (cond v (loaded (loadedInto l lh d) y) (differs l i))) as (λ z. Loaded) [
+            | differs k j ↦ differs k j
+            | loaded f w ↦ loadLevels h keys a p l (childTag (content f (slotOf l i)) (onPath p (l - 1))) f (x ++ w)
+          ])
+          ≡ outcome p (cond u (wrong l) (cond v (wrong l) (some l))) (withPath h a p l (cond u d (loadedInto l lh d)))
+          (x ++ (cond u [] y ++ pathCells h c p l))
       cases true v e =
           ih _ d (x ++ []) (like-less l lh s) (expects-next l lh d (held-content l lh s e)) ∙ regroup (wrong l) _ x [] (pathCells h c p l)
       cases false true e =
@@ -165,11 +175,14 @@ module _ (h : ℕ) (high : h ≤ 3) (keys a : List ℕ) (whole : length a ≡ ar
           → loadLevels h keys a p (suc l) t d x ≡ outcome p (wrong (suc l)) (withPath h a p (suc l) d) (x ++ pathCells h c p (suc l))
       unfolding loadLevels withPath pathCells firstWrong nodeCells
       level-step t e =
-          ap (λ (z : Loaded). elim z as (λ w. Loaded)
-          [ differs k j ↦ differs k j | loaded f w ↦ loadLevels h keys a p l (childTag (content f (slotOf l i)) (onPath p (l - 1))) f (x ++ w) ])
+          ap (λ (z : Loaded). elim z as (λ w. Loaded) [
+            | differs k j ↦ differs k j
+            | loaded f w ↦ loadLevels h keys a p l (childTag (content f (slotOf l i)) (onPath p (l - 1))) f (x ++ w)
+          ])
           (node-load t e)
           ∙ cases (holds c l i) (right l) refl
-          ∙ ap (λ (f : List ℕ). outcome p (wrong (suc l)) (withPath h a p l f) (x ++ (nodeCells h c l i ++ pathCells h c p l))) (sym with-node)
+          ∙ ap (λ (f : List ℕ). outcome p (wrong (suc l)) (withPath h a p l f) (x ++ (nodeCells h c l i ++ pathCells h c p l)))
+          (sym with-node)
 
   load-levels : (n t : ℕ) (d : List ℕ) (x : List Cell) → n ≤ suc h → Like n d → Expects n t
       → loadLevels h keys a p n t d x ≡ outcome p (wrong n) (withPath h a p n d) (x ++ pathCells h c p n)
@@ -181,7 +194,8 @@ module _ (h : ℕ) (high : h ≤ 3) (keys a : List ℕ) (whole : length a ≡ ar
   like-self q = record { sized = q; owners = λ k j z. refl; flags = λ k j z. refl; contents = λ k j z. refl }
 
   -- the whole path
-  pub load-path : length c ≡ cacheLength h → loadPath h keys a r p c ≡ outcome p (wrong (suc h)) (withPath h a p (suc h) c) (pathCells h c p (suc h))
+  pub load-path : length c ≡ cacheLength h
+      → loadPath h keys a r p c ≡ outcome p (wrong (suc h)) (withPath h a p (suc h) c) (pathCells h c p (suc h))
   unfolding expectedTag
   load-path q =
       load-levels (suc h) r c [] (le-refl (suc h)) (like-self q)
@@ -192,15 +206,18 @@ module _ (h : ℕ) (high : h ≤ 3) (keys a : List ℕ) (whole : length a ≡ ar
   -- slots of levels that are not loaded stay
   module _ (l : ℕ) (lh : l ≤ h) where
     node-other : (d : List ℕ) → length d ≡ cacheLength h → (k j : ℕ) → (k ≡ l → ⊥)
-        → (length (withNode h a d l (onPath p l)) ≡ cacheLength h) × (content (withNode h a d l (onPath p l)) (slotOf k j) ≡ content d (slotOf k j))
+        → (length (withNode h a d l (onPath p l)) ≡ cacheLength h)
+        × (content (withNode h a d l (onPath p l)) (slotOf k j) ≡ content d (slotOf k j))
     unfolding withNode
     node-other d q k j e = go (holds d l (onPath p l))
       where
-        go : (u : Bool) → (length (cond u d (loadedInto l lh d)) ≡ cacheLength h) × (content (cond u d (loadedInto l lh d)) (slotOf k j) ≡ content d (slotOf k j))
+        go : (u : Bool) → (length (cond u d (loadedInto l lh d)) ≡ cacheLength h)
+            × (content (cond u d (loadedInto l lh d)) (slotOf k j) ≡ content d (slotOf k j))
         go true = (q, refl)
         go false = (
           length-with h d q _ (in-slots l lh) _ 0 (stored l) (stored-size l lh) ∙ q,
-          content-other h d q _ (in-slots l lh) _ 0 (stored l) (stored-size l lh) (slotOf k j) (λ z. e (sym (level-slot k j) ∙ ap levelOf z ∙ level-slot l (onPath p l))),
+          content-other h d q _ (in-slots l lh) _ 0 (stored l) (stored-size l lh) (slotOf k j)
+              (λ z. e (sym (level-slot k j) ∙ ap levelOf z ∙ level-slot l (onPath p l))),
         )
 
   path-other : (n : ℕ) (d : List ℕ) → n ≤ suc h → length d ≡ cacheLength h → (k j : ℕ) → n ≤ k
@@ -224,7 +241,8 @@ module _ (h : ℕ) (high : h ≤ 3) (keys a : List ℕ) (whole : length a ≡ ar
     node-in : content (withNode h a d l (onPath p l)) (slotOf l (onPath p l)) ≡ current h a c l (onPath p l)
     node-in = rw (with-node l lh d s) (go (holds c l (onPath p l)) refl)
       where
-        go : (u : Bool) → holds c l (onPath p l) ≡ u → content (cond u d (loadedInto l lh d)) (slotOf l (onPath p l)) ≡ current h a c l (onPath p l)
+        go : (u : Bool) → holds c l (onPath p l) ≡ u
+            → content (cond u d (loadedInto l lh d)) (slotOf l (onPath p l)) ≡ current h a c l (onPath p l)
         go true e = held-content l lh s e
         go false e = loaded-content l lh s e
 
@@ -262,7 +280,9 @@ module _ (h : ℕ) (high : h ≤ 3) (keys a : List ℕ) (whole : length a ≡ ar
           go : (u : Bool) → holds d l (onPath p l) ≡ u
               → cond u d (withSlot d (slotOf l (onPath p l)) (suc (onPath p l)) 0 (storedNode h b p l)) ≡ cond u d (loadedInto l q d)
           go true e = refl
-          go false e = ap (withSlot d (slotOf l (onPath p l)) (suc (onPath p l)) 0) (same l q (sym (holds-like s l (onPath p l) (le-refl (suc l))) ∙ e))
+          go false e =
+              ap (withSlot d (slotOf l (onPath p l)) (suc (onPath p l)) 0)
+              (same l q (sym (holds-like s l (onPath p l) (le-refl (suc l))) ∙ e))
 
       levels-same : (n : ℕ) (d : List ℕ) → n ≤ suc h → Like n d → withPath h b p n d ≡ withPath h a p n d
       unfolding withPath

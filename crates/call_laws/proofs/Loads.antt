@@ -20,7 +20,8 @@ use Rattle.memory_map.proofs.Laws.{cell-within, cells-small, level-shadow, shad
 use Rattle.slot_map.proofs.Laws.{slot-within, node-belongs}
 use Rattle.control.specs.Control.{Cell}
 use Rattle.cache.specs.Cache.{owner, dirty, content, withSlot, cellContent, holds, topSlot}
-use Rattle.cache.proofs.Laws.{Formed, top-cached, dirty-owner, formed-with, length-with, owner-same, owner-other, below-with, holds-owner, content-length, content-below, cell-length, cell-below, slot-room}
+use Rattle.cache.proofs.Laws.{Formed, top-cached, dirty-owner, formed-with, length-with, owner-same, owner-other}
+use Rattle.cache.proofs.Laws.{below-with, holds-owner, content-length, content-below, cell-length, cell-below, slot-room}
 use Rattle.journal.proofs.Each.{Each, none, more, each-append}
 use Rattle.calls.specs.Path.{nodeCell, shadowCell, evicted, Loaded, loaded, differs, loadPath}
 use Rattle.call_laws.specs.Walk.{missing, nodeCells, pathCells, withNode, withPath}
@@ -69,10 +70,13 @@ module _ (h : ℕ) (c : List ℕ) (fit : Fit h c) (l i : ℕ) (lh : l ≤ h) whe
   unfolding evicted
   evicted-sound = go (eqb (dirty c (slotOf l i)) 1) refl
     where
-      go : (t : Bool) → eqb (dirty c (slotOf l i)) 1 ≡ t → Each (Sound h) (cond t (nodeCell h l (owner c (slotOf l i) - 1) (content c (slotOf l i)) ∷ []) [])
+      go : (t : Bool) → eqb (dirty c (slotOf l i)) 1 ≡ t
+          → Each (Sound h) (cond t (nodeCell h l (owner c (slotOf l i) - 1) (content c (slotOf l i)) ∷ []) [])
       go true e =
-          more (sound-node h l (owner c (slotOf l i) - 1) (content c (slotOf l i)) (dirty-owner h c l i (fit .formed) lh (eqb-true _ _ e) .1)
-          (content-length c (slotOf l i) (slot-room h (slotOf l i) c (fit .sized) in-slots)) (content-below c (slotOf l i) (fit .bytes))) none
+          more (sound-node h l (owner c (slotOf l i) - 1) (content c (slotOf l i))
+          (dirty-owner h c l i (fit .formed) lh (eqb-true _ _ e) .1)
+          (content-length c (slotOf l i) (slot-room h (slotOf l i) c (fit .sized) in-slots))
+          (content-below c (slotOf l i) (fit .bytes))) none
       go false e = none
 
   evicted-few : length (evicted h c l (slotOf l i)) ≤ 1
@@ -130,7 +134,12 @@ module _ (h : ℕ) (c : List ℕ) (fit : Fit h c) (p : ℕ) (page : p < pages h)
   unfolding pathCells
   cells-few zero q = zero-le
   cells-few (suc l) q =
-      omega (arith, length-append (nodeCells h c l (onPath p l)) (pathCells h c p l), node-few h c fit l (onPath p l) (omega arith), cells-few l (omega arith))
+      omega (
+        arith,
+        length-append (nodeCells h c l (onPath p l)) (pathCells h c p l),
+        node-few h c fit l (onPath p l) (omega arith),
+        cells-few l (omega arith),
+      )
 
   -- where no slot is dirty
   cells-lean : ((k j : ℕ) → k ≤ h → dirty c (slotOf k j) ≡ 0) → (n : ℕ) → n ≤ suc h → length (pathCells h c p n) ≤ n
@@ -163,7 +172,9 @@ module _ (h : ℕ) (c : List ℕ) (fit : Fit h c) (p : ℕ) (page : p < pages h)
     where
       go : (o : ℕ) → owner c (topSlot h) ≡ o → length (pathCells h c p (suc h)) ≤ 2 * h
       go zero e =
-          omega (arith, cells-lean (λ k j q. let w = slot-within h k j q in fit .formed .clean (slotOf k j) w (fit .formed .owners .top e (slotOf k j) w)) (suc h) (le-refl (suc h)))
+          let idle : (k j : ℕ) → k ≤ h → dirty c (slotOf k j) ≡ 0 =
+          λ k j q. let w = slot-within h k j q in fit .formed .clean (slotOf k j) w (fit .formed .owners .top e (slotOf k j) w) in
+          omega (arith, cells-lean idle (suc h) (le-refl (suc h)))
       go (suc o) e = omega (arith, cells-few h (omega arith), ap length (top-free o e))
 
 -- ---- the cache with a node, and with a path
@@ -193,8 +204,10 @@ module _ (h : ℕ) (high : h ≤ 3) (a : List ℕ) (whole : length a ≡ arrayLe
     slot-fit =
         record {
           sized = length-with h c (fit .sized) (slotOf l i) (slot-within h l i lh) (suc i) 0 b b-length ∙ fit .sized;
-          formed = formed-with h c (fit .sized) (slotOf l i) (slot-within h l i lh) i 0 b b-length small (node-belongs h l i within) zero-le at-top (fit .formed);
-          bytes = below-with h c (fit .sized) (slotOf l i) (slot-within h l i lh) (suc i) 0 b b-length (lit< tt) (cell-below a (cellOf h (node l i)) plain) (fit .bytes);
+          formed = formed-with h c (fit .sized) (slotOf l i) (slot-within h l i lh) i 0 b b-length small
+              (node-belongs h l i within) zero-le at-top (fit .formed);
+          bytes = below-with h c (fit .sized) (slotOf l i) (slot-within h l i lh) (suc i) 0 b b-length (lit< tt)
+              (cell-below a (cellOf h (node l i)) plain) (fit .bytes);
         }
 
     slot-owner : owner (withSlot c (slotOf l i) (suc i) 0 b) (topSlot h) ≡ 0 → ⊥
@@ -214,7 +227,8 @@ module _ (h : ℕ) (high : h ≤ 3) (a : List ℕ) (whole : length a ≡ arrayLe
     node-fit = go (holds c l i) refl
       where
         go : (t : Bool) → holds c l i ≡ t
-            → Fit h (cond t c (withSlot c (slotOf l i) (suc i) 0 b)) × (owner (cond t c (withSlot c (slotOf l i) (suc i) 0 b)) (topSlot h) ≡ 0 → ⊥)
+            → Fit h (cond t c (withSlot c (slotOf l i) (suc i) 0 b))
+            × (owner (cond t c (withSlot c (slotOf l i) (suc i) 0 b)) (topSlot h) ≡ 0 → ⊥)
         go true e = (fit, λ z. omega (arith, ap (owner c) (at-top z), z, holds-owner c l i e))
         go false e = (slot-fit, slot-owner)
 
@@ -228,21 +242,22 @@ module _ (h : ℕ) (high : h ≤ 3) (a : List ℕ) (whole : length a ≡ arrayLe
 
 -- ---- the whole path
 
-module _ (h : ℕ) (low : 1 ≤ h) (high : h ≤ 3) (keys a : List ℕ) (whole : length a ≡ arrayLength h) (plain : Below 256 a) (p : ℕ) (page : p < pages h) where
-  pub record Loads (d : List ℕ) (y : List Cell) : Type 0 where
-    pub fit : Fit h d
-    pub sound : Each (Sound h) y
-    pub few : length y ≤ 2 * h
+pub record Loads (h : ℕ) (d : List ℕ) (y : List Cell) : Type 0 where
+  pub fit : Fit h d
+  pub sound : Each (Sound h) y
+  pub few : length y ≤ 2 * h
 
-  unfoldable pub LoadsIf : Loaded → Type 0
-  LoadsIf (differs k j) = Unit {0}
-  LoadsIf (loaded d y) = Loads d y
+unfoldable pub LoadsIf : ℕ → Loaded → Type 0
+LoadsIf h (differs k j) = Unit {0}
+LoadsIf h (loaded d y) = Loads h d y
 
-  pub path-loads : (r : ℕ) (c : List ℕ) → Fit h c → LoadsIf (loadPath h keys a r p c)
+module _ (h : ℕ) (low : 1 ≤ h) (high : h ≤ 3) (keys a : List ℕ) (whole : length a ≡ arrayLength h) (plain : Below 256 a) (p : ℕ)
+    (page : p < pages h) where
+  pub path-loads : (r : ℕ) (c : List ℕ) → Fit h c → LoadsIf h (loadPath h keys a r p c)
   unfolding LoadsIf
   path-loads r c fit = rw (load-path h high keys a whole r p page c (fit .sized)) (go (firstWrong h keys a c r p (suc h)))
     where
-      go : (o : Option ℕ) → LoadsIf (outcome p o (withPath h a p (suc h) c) (pathCells h c p (suc h)))
+      go : (o : Option ℕ) → LoadsIf h (outcome p o (withPath h a p (suc h) c) (pathCells h c p (suc h)))
       go nothing =
           record {
             fit = path-fit h high a whole plain p page (suc h) c (le-refl (suc h)) fit (λ e. refl);
@@ -254,7 +269,8 @@ module _ (h : ℕ) (low : 1 ≤ h) (high : h ≤ 3) (keys a : List ℕ) (whole :
 -- ---- a path that the cache has, and one of which it lacks nodes
 
 module _ (h : ℕ) (a c : List ℕ) (p : ℕ) where
-  level-held : (l : ℕ) → holds c l (onPath p l) ≡ true → (pathCells h c p (suc l) ≡ pathCells h c p l) × (withPath h a p (suc l) c ≡ withPath h a p l c)
+  level-held : (l : ℕ) → holds c l (onPath p l) ≡ true
+      → (pathCells h c p (suc l) ≡ pathCells h c p l) × (withPath h a p (suc l) c ≡ withPath h a p l c)
   unfolding pathCells nodeCells withPath withNode
   level-held l e = (rw e, rw e)
 
@@ -264,7 +280,8 @@ module _ (h : ℕ) (a c : List ℕ) (p : ℕ) where
   none-missing (suc l) e = go (holds c l (onPath p l)) refl e (none-missing l)
     where
       go : (t : Bool) → holds c l (onPath p l) ≡ t → cond t 0 1 + missing c p l ≡ 0
-          → (missing c p l ≡ 0 → (pathCells h c p l ≡ []) × (withPath h a p l c ≡ c)) → (pathCells h c p (suc l) ≡ []) × (withPath h a p (suc l) c ≡ c)
+          → (missing c p l ≡ 0 → (pathCells h c p l ≡ []) × (withPath h a p l c ≡ c))
+          → (pathCells h c p (suc l) ≡ []) × (withPath h a p (suc l) c ≡ c)
       go true f g ih = let r = ih (omega arith) in (level-held l f .0 ∙ r .0, level-held l f .1 ∙ r .1)
       go false f g ih = absurd (omega arith)
 

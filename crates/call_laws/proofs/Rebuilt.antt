@@ -22,15 +22,17 @@ use Rattle.cache.specs.declared.Found.{Found}
 use Rattle.cache.specs.declared.Found.the-variants.{Nothing, At}
 use Rattle.cache.specs.Cache.{from, withSlot, emptyCache, cellContent, shadowOwners, badSlot, current}
 use Rattle.cache.proofs.Laws.{length-with, below-with, length-empty, below-empty}
-use Rattle.journal.specs.Journal.{storeAll, made, isCut, pendingStores}
+use Rattle.journal.specs.Journal.{Store, storeAll, made, isCut, pendingStores}
 use Rattle.journal.proofs.Each.{Each, each-take}
 use Rattle.journal.proofs.Kept.{Within, within-pending, stores-front}
 use Rattle.answer.specs.declared.Answer.the-variants.{Done, Cut, Refused}
 use Rattle.calls.specs.Call.{Module, Called, mediaOf, withMedia}
-use Rattle.calls.specs.Recovery.{forwardFrom, total, Rebuilt, rebuilt, damaged, rebuildBlock, rebuildSlot, rebuildBlocks, rebuildNode, rebuildNodes, recoverRoot, recoverRebuilt, recoverShadow, recoverMedia, recoverJudged, recover, recoveryRefusal}
+use Rattle.calls.specs.Recovery.{forwardFrom, total, Rebuilt, rebuilt, damaged, rebuildBlock}
+use Rattle.calls.specs.Recovery.{rebuildSlot, rebuildBlocks, rebuildNode, rebuildNodes, recoverRoot, recoverRebuilt}
+use Rattle.calls.specs.Recovery.{recoverShadow, recoverMedia, recoverJudged, recover, recoveryRefusal}
 use Rattle.call_laws.proofs.Judged.{Opened, recovery-opened, head-of}
 use Rattle.call_laws.proofs.Tags.{tags-length, tags-bytes}
-use Rattle.call_laws.proofs.Kept.{Bytes, Kept, kept-same, after-stores, media-formed, array-cells}
+use Rattle.call_laws.proofs.Kept.{Bytes, Kept, kept-same, Buffers, after-stores, media-formed, array-cells}
 
 -- a cache by its length and its bytes
 record Plain (h : ℕ) (c : List ℕ) : Type 0 where
@@ -54,13 +56,16 @@ PlainIf h damaged = Unit {0}
 PlainIf h (rebuilt c t) = Plain h c
 
 module _ (h : ℕ) (a : List ℕ) where
+  abbrev block : ℕ → List ℕ
+  block p = cellContent a (cellOf h (node 0 p))
+
   block-plain : (c : List ℕ) (sum s p : ℕ) → s < slots h → Plain h c → PlainIf h (rebuildBlock h a c sum s p)
   unfolding rebuildBlock PlainIf
-  block-plain c sum s p within plain = go (forwardFrom a (64 * p) (minors (cellContent a (cellOf h (node 0 p)))))
+  block-plain c sum s p within plain = go (forwardFrom a (64 * p) (minors (block p)))
     where
       go : (r : Option (List ℕ)) → PlainIf h (elim r as (λ z. Rebuilt) [
         | none ↦ damaged
-        | some ms ↦ rebuilt (withSlot c s (suc p) 1 (counterBlock (major (cellContent a (cellOf h (node 0 p)))) ms)) (sum + (total ms - total (minors (cellContent a (cellOf h (node 0 p))))))
+        | some ms ↦ rebuilt (withSlot c s (suc p) 1 (counterBlock (major (block p)) ms)) (sum + (total ms - total (minors (block p))))
       ])
       go none = tt
       go (some ms) = with-plain h s (suc p) 1 _ c within (lit< tt) (length-counterBlock _ ms) (below-counterBlock _ ms) plain
@@ -74,7 +79,8 @@ module _ (h : ℕ) (a : List ℕ) where
   unfolding rebuildBlocks PlainIf
   blocks-plain s [] c sum few plain = plain
   blocks-plain s (o ∷ os) c sum few plain =
-      next s os (omega arith) (λ d t p. blocks-plain (suc s) os d t (omega arith) p) (rebuildSlot h a c sum s o) (slot-plain c sum s o (omega arith) plain)
+      next s os (omega arith) (λ d t p. blocks-plain (suc s) os d t (omega arith) p) (rebuildSlot h a c sum s o)
+      (slot-plain c sum s o (omega arith) plain)
     where
       next : (s : ℕ) (os : List ℕ) → suc s + length os ≤ slots h
           → ((d : List ℕ) (t : ℕ) → Plain h d → PlainIf h (rebuildBlocks h a (suc s) os d t)) → (r : Rebuilt) → PlainIf h r
@@ -103,38 +109,46 @@ from-length f s zero = refl
 from-length f s (suc n) = ap suc (from-length f (suc s) n)
 
 -- a module whose cache is rebuilt
-rebuilt-kept : (m : Module) (c : List ℕ) → Bytes m → length c ≡ length (m .cache) → Below 256 c → Kept m (record { array = m .array; control = m .control; cache = c })
-rebuilt-kept m c b e p = record { array = refl; control = refl; cache = e; bytes = record { array = b .array; control = b .control; cache = p } }
+rebuilt-kept : (m : Module) (c : List ℕ) → Bytes m → length c ≡ length (m .cache) → Below 256 c
+    → Kept m (record { array = m .array; control = m .control; cache = c })
+rebuilt-kept m c b e p =
+    record { array = refl; control = refl; cache = e; bytes = record { array = b .array; control = b .control; cache = p } }
 
 module _ (keys : List ℕ) (k : ℕ) (m : Module) (b : Bytes m) (sized : length (m .cache) ≡ cacheLength (depth (m .control))) where
-  root-kept : (sum : ℕ) (c : List ℕ) → Plain (depth (m .control)) c → Kept m ((recoverRoot keys k m sum c) .after)
+  abbrev h : ℕ
+  h = depth (m .control)
+
+  root-kept : (sum : ℕ) (c : List ℕ) → Plain h c → Kept m ((recoverRoot keys k m sum c) .after)
   unfolding recoverRoot
-  root-kept sum c p = go (eqb (nodeTag keys (current (depth (m .control)) (m .array) c (depth (m .control)) 0) (depth (m .control)) 0) (root (m .control)))
+  root-kept sum c p = go (eqb (nodeTag keys (current h (m .array) c h 0) h 0) (root (m .control)))
     where
-      go : (t : Bool) → Kept m ((cond {A = Called} t (record { answer = Done k sum; after = record { array = m .array; control = m .control; cache = c } })
-          (record { answer = Refused 29 k 0 0; after = m })) .after)
+      done : Called
+      done = record { answer = Done k sum; after = record { array = m .array; control = m .control; cache = c } }
+
+      go : (t : Bool) → Kept m ((cond {A = Called} t done (record { answer = Refused 29 k 0 0; after = m })) .after)
       go true = rebuilt-kept m c b (p .sized ∙ sym sized) (p .bytes)
       go false = kept-same m b
 
-  rebuilt-call : (os : List ℕ) → length os ≡ slots (depth (m .control)) → (r : Rebuilt) → PlainIf (depth (m .control)) r → Kept m ((recoverRebuilt keys k m os r) .after)
+  rebuilt-call : (os : List ℕ) → length os ≡ slots h → (r : Rebuilt) → PlainIf h r → Kept m ((recoverRebuilt keys k m os r) .after)
   unfolding recoverRebuilt PlainIf slots
   rebuilt-call os e damaged p = kept-same m b
   rebuilt-call os e (rebuilt d sum) p =
-      root-kept sum (rebuildNodes (depth (m .control)) keys (m .array) 4 (drop 4 os) d)
-      (nodes-plain (depth (m .control)) (m .array) keys 4 (drop 4 os) d (omega (arith, length-drop 4 os)) p)
+      root-kept sum (rebuildNodes h keys (m .array) 4 (drop 4 os) d)
+      (nodes-plain h (m .array) keys 4 (drop 4 os) d (omega (arith, length-drop 4 os)) p)
 
-  shadow-call : (os : List ℕ) → length os ≡ slots (depth (m .control)) → (f : Found) → Kept m ((recoverShadow keys k m os f) .after)
+  shadow-call : (os : List ℕ) → length os ≡ slots h → (f : Found) → Kept m ((recoverShadow keys k m os f) .after)
   unfolding recoverShadow slots
   shadow-call os e (At s) = kept-same m b
   shadow-call os e Nothing =
-      rebuilt-call os e (rebuildBlocks (depth (m .control)) (m .array) 0 (take 4 os) (emptyCache (depth (m .control))) 0)
-      (blocks-plain (depth (m .control)) (m .array) 0 (take 4 os) (emptyCache (depth (m .control))) 0 (omega (arith, length-take 4 os)) (empty-plain (depth (m .control))))
+      rebuilt-call os e (rebuildBlocks h (m .array) 0 (take 4 os) (emptyCache h) 0)
+      (blocks-plain h (m .array) 0 (take 4 os) (emptyCache h) 0 (omega (arith, length-take 4 os)) (empty-plain h))
 
   media-kept : Kept m ((recoverMedia keys k m) .after)
-  media-kept = shadow-call (shadowOwners (depth (m .control)) (m .array)) (from-length _ 0 (slots (depth (m .control)))) (badSlot (depth (m .control)) (shadowOwners (depth (m .control)) (m .array)))
+  media-kept = shadow-call (shadowOwners h (m .array)) (from-length _ 0 (slots h)) (badSlot h (shadowOwners h (m .array)))
 
 kept-trans : (m n o : Module) → Kept m n → Kept n o → Kept m o
-kept-trans m n o p q = record { array = q .array ∙ p .array; control = q .control ∙ p .control; cache = q .cache ∙ p .cache; bytes = q .bytes }
+kept-trans m n o p q =
+    record { array = q .array ∙ p .array; control = q .control ∙ p .control; cache = q .cache ∙ p .cache; bytes = q .bytes }
 
 -- the depth is in the first bytes
 front-depth : (k l : List ℕ) → part k 0 7 ≡ part l 0 7 → depth k ≡ depth l
@@ -142,45 +156,44 @@ unfolding depth
 front-depth k l e = sym (getD-part k 0 7 5 (lit< tt)) ∙ ap (λ (x : List ℕ). getD x 5 0) e ∙ getD-part l 0 7 5 (lit< tt)
 
 module _ (keys : List ℕ) (m : Module) (b : Bytes m) (ok : Opened keys m) where
+  buffers : Buffers (depth (m .control)) m
+  buffers = record { bytes = b; high = head-of keys m ok .flat; whole = ok .fits .array; record664 = ok .record664 }
+
   pending-within : Each (Within (length (m .array) / 72)) (pendingStores (m .control))
   pending-within =
       rw (array-cells (depth (m .control)) (length (m .array)) (ok .fits .array))
-      (within-pending (cells (depth (m .control))) (m .control) (ok .record664) (b .control) (head-of keys m ok .few) (valid-parts (ok .right) .1))
+      (within-pending (cells (depth (m .control))) (m .control) (ok .record664) (b .control) (head-of keys m ok .few)
+      (valid-parts (ok .right) .1))
 
-  unfoldable pub made-module : ℕ → Module
-  made-module a = withMedia (storeAll (mediaOf m) (made a (pendingStores (m .control)))) (m .cache)
+  abbrev xs : List Store
+  xs = pendingStores (m .control)
+
+  abbrev pub made-module : ℕ → Module
+  made-module a = withMedia (storeAll (mediaOf m) (made a xs)) (m .cache)
 
   pending-kept : (a : ℕ) → Kept m (made-module a)
-  unfolding made-module
-  pending-kept a = after-stores m b (depth (m .control)) (head-of keys m ok .flat) (ok .fits .array) (ok .record664) a (m .cache) pending-within refl (b .cache)
+  pending-kept a = after-stores buffers a (m .cache) pending-within refl (b .cache)
 
   pub made-depth : (a : ℕ) → depth (made-module a .control) ≡ depth (m .control)
-  unfolding made-module
   made-depth a =
       front-depth _ (m .control)
-      (stores-front (media-formed m b (depth (m .control)) (head-of keys m ok .flat) (ok .fits .array) (ok .record664)) (each-take a pending-within))
+      (stores-front (media-formed buffers) (each-take a pending-within))
 
   opened-kept : (a : ℕ) → Kept m ((recoverJudged 0 keys a m) .after)
-  unfolding recoverJudged made-module
-  opened-kept a = go (isCut a (pendingStores (m .control)))
+  unfolding recoverJudged
+  opened-kept a = go (isCut a xs)
     where
-      n : Module
-      n = withMedia (storeAll (mediaOf m) (made a (pendingStores (m .control)))) (m .cache)
-
-      go : (t : Bool) → Kept m ((cond {A = Called} t (record { answer = Cut (length (made a (pendingStores (m .control)))); after = n })
-          (recoverMedia keys (length (pendingStores (m .control))) n)) .after)
+      go : (t : Bool) → Kept m ((cond {A = Called} t (record { answer = Cut (length (made a xs)); after = made-module a })
+          (recoverMedia keys (length xs) (made-module a))) .after)
       go true = pending-kept a
       go false =
-          kept-trans m n _ (pending-kept a)
-          (media-kept keys (length (pendingStores (m .control))) n (pending-kept a .bytes) (ok .fits .cache ∙ ap cacheLength (sym (made-depth a))))
-
-refused-kept : (keys : List ℕ) (k a : ℕ) (m : Module) → Bytes m → Kept m ((recoverJudged (suc k) keys a m) .after)
-unfolding recoverJudged
-refused-kept keys k a m b = kept-same m b
+          kept-trans m (made-module a) _ (pending-kept a)
+          (media-kept keys (length xs) (made-module a) (pending-kept a .bytes) (ok .fits .cache ∙ ap cacheLength (sym (made-depth a))))
 
 pub recover-kept : (keys : List ℕ) (a : ℕ) (m : Module) → Bytes m → Kept m ((recover keys a m) .after)
+unfolding recoverJudged
 recover-kept keys a m b = go (recoveryRefusal keys m) refl
   where
     go : (k : ℕ) → recoveryRefusal keys m ≡ k → Kept m ((recoverJudged k keys a m) .after)
     go zero e = opened-kept keys m b (recovery-opened keys m e) a
-    go (suc k) e = refused-kept keys k a m b
+    go (suc k) e = kept-same m b

@@ -1,5 +1,5 @@
 -- A batch of sound cells that is staged as far as an allowance goes, and run: its stores. Assumes nothing.
-use mathlib.Core.Path.{_≡_, ap, ap₂, _∙_, subst₂}
+use mathlib.Core.Path.{_≡_, ap₂, _∙_, subst₂}
 use mathlib.Core.Bool.{Bool, true}
 use mathlib.Core.List.{List}
 use Prim.Native.Nat.{ℕ, _/_, _≤_, _<_}
@@ -34,7 +34,8 @@ module _ {h allowance : ℕ} {a k : List ℕ} {cs : List Cell} {k₁ : List ℕ}
       ∙ staged-places a k cs 0 allowance (s .control) (s .some) (s .few) (wholes h (s .flat) (s .sound)) (omega (arith, s .number)))
       ∙ in-map h (s .sound)
 
-  pub staged-run : (r : ℕ) (after : Media) (told : ℕ) → Ran a k₁ n r allowance after told → Stored allowance (batchStores cs r) (media a k) after told
+  pub staged-run : (r : ℕ) (after : Media) (told : ℕ) → Ran a k₁ n r allowance after told
+      → Stored allowance (batchStores cs r) (media a k) after told
   staged-run r after told ran =
       run-stored a k cs r allowance (s .control) (s .some) (s .few) (wholes h (s .flat) (s .sound)) after told
       (subst₂ (λ (x : List ℕ) (i : ℕ). Ran a x i r allowance after told) (s .cells) (s .number) ran)

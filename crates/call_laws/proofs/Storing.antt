@@ -1,13 +1,13 @@
 -- Stores made under an allowance, as the calls answer them: cut, or done with what the call leaves in the cache. Assumes nothing.
 use mathlib.Core.Path.{_≡_, refl, sym, ap, ap₂, _∙_}
-use mathlib.Core.Bool.{Bool, true, false, cond, false≢true}
+use mathlib.Core.Bool.{Bool, true, false, cond}
 use mathlib.Core.List.{List}
 use Prim.Native.Nat.{ℕ, min, _≤_, _<_}
 use native.Mathlib.Omega.{arith}
 use borrow.Author.Tests.{le-ltb}
 use lib.ListN.{length, length-take}
 use Rattle.answer.specs.declared.Answer.{Answer}
-use Rattle.answer.specs.declared.Answer.the-variants.{Done, Blank, Cut, Refused}
+use Rattle.answer.specs.declared.Answer.the-variants.{Done, Cut}
 use Rattle.journal.specs.Journal.{Store, Media, media, storeAll, made, isCut, Stored}
 use Rattle.journal.proofs.Laws.{less-cut}
 use Rattle.calls.specs.Call.{Module, Called, mediaOf, withMedia, ended, storing}
@@ -28,13 +28,15 @@ pub storing-array : (allowance : ℕ) (m : Module) (xs : List Store) (answer : A
     → (storing allowance m xs answer c) .after .array ≡ storeAll (mediaOf m) (made allowance xs) .array
 storing-array allowance m xs answer c = go (isCut allowance xs) refl
   where
-    go : (t : Bool) → isCut allowance xs ≡ t → (storing allowance m xs answer c) .after .array ≡ storeAll (mediaOf m) (made allowance xs) .array
+    go : (t : Bool) → isCut allowance xs ≡ t
+        → (storing allowance m xs answer c) .after .array ≡ storeAll (mediaOf m) (made allowance xs) .array
     go true e = ap (λ (x : Called). x .after .array) (storing-is allowance m xs answer c true e)
     go false e = ap (λ (x : Called). x .after .array) (storing-is allowance m xs answer c false e)
 
 -- ---- from the stores that were made
 
-module _ (allowance : ℕ) (m : Module) (xs : List Store) (answer : Answer) (c a k : List ℕ) (told : ℕ) (s : Stored allowance xs (mediaOf m) (media a k) told) where
+module _ (allowance : ℕ) (m : Module) (xs : List Store) (answer : Answer) (c a k : List ℕ) (told : ℕ)
+    (s : Stored allowance xs (mediaOf m) (media a k) told) where
   few : told ≡ min allowance (length xs)
   few = s .number ∙ length-take allowance xs
 
@@ -75,7 +77,8 @@ module _ (allowance : ℕ) (m : Module) (xs : List Store) (n : ℕ) (d : List �
           record {
             whole = g;
             stores = cc;
-            called = λ answer. ap (λ (x : Called). record { answer = answer; after = x .after }) (as-ended false g) ∙ sym (storing-is allowance m xs answer d false g);
+            called = λ answer. ap (λ (x : Called). record { answer = answer; after = x .after }) (as-ended false g)
+                ∙ sym (storing-is allowance m xs answer d false g);
           }
 
   pub record Broken : Type 0 where

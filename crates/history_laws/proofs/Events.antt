@@ -5,7 +5,7 @@ use mathlib.Core.Logic.{_⊎_, inl, inr}
 use mathlib.Core.Bool.{Bool, true, false, cond, false≢true}
 use mathlib.Core.List.{List, [], _∷_, _++_}
 use mathlib.Core.Option.{Option, none, some}
-use Prim.Native.Nat.{ℕ, zero, suc, _+_, _-_, _*_, _/_, _^_, _≤_, _<_}
+use Prim.Native.Nat.{ℕ, zero, suc, _+_, _-_, _*_, _/_, _^_, _<_}
 use native.Mathlib.Omega.{arith}
 use borrow.Author.Tests.{eq-eqb, lt-ltb, le-ltb}
 use lib.Dec.{ltb}
@@ -25,56 +25,77 @@ use Rattle.calls.specs.Write.{writeStores, writtenCache, writeLoaded, writePath
 use Rattle.calls.specs.Recovery.{recover}
 use Rattle.calls.specs.Format.{formatRefusal, formatted, format}
 use Rattle.calls.specs.DirtyPages.{listRefusal}
-use Rattle.calls.specs.History.{Event, reads, writes, recovers, lists, formats, powerCut, listCall, step, Book, commits, entered, bookAfter, Admitted, awaits, Allowed, moduleAfter, bookOf}
+use Rattle.calls.specs.History.{Event, reads, writes, recovers, lists, formats, powerCut, listCall, step, Book}
+use Rattle.calls.specs.History.{commits, entered, bookAfter, Keyed, Admitted, awaits, Allowed, moduleAfter, bookOf}
 use Rattle.call_laws.proofs.Judged.{access-accepted}
+use Rattle.history_laws.proofs.Setting.{Setting}
 use Rattle.history_laws.proofs.State.{Holds, Ready}
 use Rattle.history_laws.proofs.Outcome.{Outcome, done, dropped, kept, cases}
-use Rattle.history_laws.proofs.Reading.{was, walk, stores, path-is, minor-is, reads-blank, reads-text}
-use Rattle.history_laws.proofs.Writing.{read-outcome, cells, root-new, few-new, some-new, write-outcome, write-is}
+use Rattle.history_laws.proofs.Reading.{Access, was, walk, stores, path-is, minor-is, reads-blank, reads-text}
+use Rattle.history_laws.proofs.Writing.{read-outcome, Writable, cells, root-new, few-new, some-new, write-outcome, write-is}
 use Rattle.history_laws.proofs.Recovery.{Ends, cut, rebuilt, ends}
-use Rattle.history_laws.proofs.Refused.{read-same, write-same, recover-same}
+use Rattle.history_laws.proofs.Refused.{Same, read-same, write-same, recover-same}
 
-module _ (keys : List ℕ) (keyed : Below 256 keys) (k48 : length keys ≡ 48) (h : ℕ) (low : 1 ≤ h) (high : h ≤ 3) where
+module _ (S : Setting) where
+  open Setting S using (keys, h)
+
   pub record Inv (aw : Bool) (b : Book) (m : Module) : Type 0 where
-    pub holds : Holds keys h low high b m
-    pub ready : aw ≡ false → Ready keys h low high b m
+    pub holds : Holds S b m
+    pub ready : aw ≡ false → Ready S b m
 
-  refused-inv : (aw : Bool) (b : Book) (m : Module) (out : Called) → Inv aw b m → out .after ≡ m → (n j x y : ℕ) → out .answer ≡ Refused n j x y → Inv (awaits aw (out .answer)) b (out .after)
-  unfolding awaits
-  refused-inv aw b m out v e n j x y r = subst (λ (a : Answer). Inv (awaits aw a) b (out .after)) (sym r) (subst (Inv aw b) (sym e) v)
+  -- a call that leads from the one to the other, the book unchanged
+  abbrev Leads : Bool → Book → Called → Type 0
+  Leads aw b out = Inv (awaits aw (out .answer)) b (out .after)
 
-  cut-inv : (aw : Bool) (b : Book) (out : Called) (n : ℕ) → out .answer ≡ Cut n → Holds keys h low high b (out .after) → Inv (awaits aw (out .answer)) b (out .after)
+  ready-inv : {aw : Bool} {b : Book} {m : Module} → Ready S b m → Inv aw b m
+  ready-inv r = record { holds = r .holds; ready = λ z. r }
+
+  cut-only : {b : Book} {m : Module} → Holds S b m → Inv true b m
+  cut-only v = record { holds = v; ready = λ e. absurd (false≢true (sym e)) }
+
+  refused-inv : {aw : Bool} {b : Book} {m : Module} (out : Called) → Inv aw b m → Same m out
+      → (n : ℕ) × (x : ℕ) × (y : ℕ) × (out .answer ≡ Refused n 0 x y) → Leads aw b out
   unfolding awaits
-  cut-inv aw b out n r v = subst (λ (a : Answer). Inv (awaits aw a) b (out .after)) (sym r) (record { holds = v; ready = λ e. absurd (false≢true (sym e)) })
+  refused-inv {aw} {b} out v same r =
+      subst (λ (a : Answer). Inv (awaits aw a) b (out .after)) (sym (r .3)) (subst (Inv aw b) (sym (same (r .0) (r .1) (r .2) (r .3))) v)
+
+  cut-inv : (aw : Bool) {b : Book} (out : Called) (n : ℕ) → out .answer ≡ Cut n → Holds S b (out .after) → Leads aw b out
+  unfolding awaits
+  cut-inv aw {b} out n r v = subst (λ (a : Answer). Inv (awaits aw a) b (out .after)) (sym r) (cut-only v)
 
   -- ---- a read with the module's keys
 
-  read-ended : (b : Book) (size : ℕ) (answer : Answer) (out : Called) → Outcome keys h low high b b size answer out → Inv (awaits false (out .answer)) b (out .after)
-  read-ended b size answer out (done e x y) = record { holds = x; ready = λ z. y }
-  read-ended b size answer out (dropped i p e x) = cut-inv false b out i e x
-  read-ended b size answer out (kept i p e x) = cut-inv false b out i e x
+  read-ended : (b : Book) (size : ℕ) (answer : Answer) (out : Called) → Outcome S b b size answer out → Leads false b out
+  read-ended b size answer out (done e y) = ready-inv y
+  read-ended b size answer out (dropped i p e x) = cut-inv false out i e x
+  read-ended b size answer out (kept i p e x) = cut-inv false out i e x
 
-  abbrev After : Book → Reading → Type 0
-  After b x = Inv (awaits false (x .called .answer)) b (x .called .after)
+  module _ {b : Book} {m : Module} (r : Ready S b m) where
+    open-line : (n : ℕ) (buffer : List ℕ) → accessRefusal keys n buffer m ≡ 0 → Access S b m n
+    open-line n buffer e =
+        record { ready = r; inside = subst (λ (d : ℕ). n < lines d) (r .holds .deep) (access-accepted keys n buffer m e .entry .inside) }
 
-  module _ (b : Book) (m : Module) (v : Holds keys h low high b m) (r : Ready keys h low high b m) where
     module _ (n allowance : ℕ) (out : List ℕ) where
-      read-stored : (inside : n < lines h) (answer : Answer) (t : List ℕ)
-          → After b (answered allowance m (stores keys keyed h low high b m v r n inside) answer (walk keys keyed h low high b m v r n inside .cache) t out)
+      read-stored : (w : Access S b m n) (answer : Answer) (t : List ℕ)
+          → Leads false b (answered allowance m (stores w) answer (walk w .cache) t out .called)
       unfolding answered
-      read-stored inside answer t = read-ended b _ answer _ (read-outcome keys keyed h low high b m v r n inside answer allowance)
+      read-stored w answer t = read-ended b _ answer _ (read-outcome w answer allowance)
 
-      read-text : (inside : n < lines h) → accessRefusal keys n out m ≡ 0 → (o : Option (List ℕ)) → b .text n ≡ o → After b (read keys n allowance out m)
-      read-text inside e none z = subst (After b) (sym (reads-blank keys keyed h low high b m v r n inside out e allowance z)) (read-stored inside _ (replicate 64 0))
-      read-text inside e (some t) z = subst (After b) (sym (reads-text keys keyed h low high b m v r n inside out e allowance t z)) (read-stored inside _ t)
+      read-text : Access S b m n → accessRefusal keys n out m ≡ 0 → (o : Option (List ℕ)) → b .text n ≡ o
+          → Leads false b (read keys n allowance out m .called)
+      read-text w e none z =
+          subst (λ (x : Reading). Leads false b (x .called)) (sym (reads-blank w out e allowance z)) (read-stored w _ (replicate 64 0))
+      read-text w e (some t) z =
+          subst (λ (x : Reading). Leads false b (x .called)) (sym (reads-text w out e allowance t z)) (read-stored w _ t)
 
-      read-own : After b (read keys n allowance out m)
+      read-own : Leads false b (read keys n allowance out m .called)
       unfolding readJudged awaits
       read-own = go (accessRefusal keys n out m) refl
         where
-          go : (k : ℕ) → accessRefusal keys n out m ≡ k → After b (read keys n allowance out m)
-          go zero e = read-text (subst (λ (d : ℕ). n < lines d) (v .deep) (access-accepted keys n out m e .inside)) e (b .text n) refl
-          go (suc k) e = subst (After b) (sym (ap (λ (i : ℕ). readJudged i keys n allowance m out) e)) (record { holds = v; ready = λ z. r })
+          go : (k : ℕ) → accessRefusal keys n out m ≡ k → Leads false b (read keys n allowance out m .called)
+          go zero e = read-text (open-line n out e) e (b .text n) refl
+          go (suc k) e =
+              subst (λ (x : Reading). Leads false b (x .called)) (sym (ap (λ (i : ℕ). readJudged i keys n allowance m out) e)) (ready-inv r)
 
     -- ---- a write
 
@@ -84,77 +105,81 @@ module _ (keys : List ℕ) (keyed : Below 256 keys) (k48 : length keys ≡ 48) (
 
       not-entered : (full k x y : ℕ) → Entered full (refuse m k x y)
       unfolding awaits commits entered
-      not-entered full k x y = record { holds = v; ready = λ z. r }
+      not-entered full k x y = ready-inv r
 
       -- whether the cut commits it: more than size stores of 2 size + 3
-      write-ended : (size full : ℕ) (answer : Answer) (out : Called) → full ≡ 2 * size + 3 → ((a : ℕ) → commits answer a ≡ true) → awaits false answer ≡ false
-          → Outcome keys h low high b (entered true n text b) size answer out → Entered full out
-      unfolding awaits commits entered
-      write-ended size full answer out f yea idle (done e x y) =
-          subst (λ (a : Answer). Inv (awaits false a) (entered (commits a full) n text b) (out .after)) (sym e)
-          (subst (λ (s : Bool). Inv (awaits false answer) (entered s n text b) (out .after)) (sym (yea full)) (record { holds = x; ready = λ z. y }))
-      write-ended size full answer out f yea idle (dropped i p e x) =
-          let half : (full - 3) / 2 ≡ size = omega arith in
-          subst (λ (a : Answer). Inv (awaits false a) (entered (commits a full) n text b) (out .after)) (sym e)
-          (subst (λ (s : Bool). Inv true (entered s n text b) (out .after)) (sym (ap (λ (k : ℕ). ltb k i) half ∙ le-ltb size i p))
-          (record { holds = not-so x; ready = λ z. absurd (false≢true (sym z)) }))
-        where
-          not-so : Holds keys h low high b (out .after) → Holds keys h low high (entered false n text b) (out .after)
-          not-so w = w
-      write-ended size full answer out f yea idle (kept i p e x) =
-          let half : (full - 3) / 2 ≡ size = omega arith in
-          subst (λ (a : Answer). Inv (awaits false a) (entered (commits a full) n text b) (out .after)) (sym e)
-          (subst (λ (s : Bool). Inv true (entered s n text b) (out .after)) (sym (ap (λ (k : ℕ). ltb k i) half ∙ lt-ltb size i p))
-          (record { holds = x; ready = λ z. absurd (false≢true (sym z)) }))
+      module _ (size full : ℕ) (f : full ≡ 2 * size + 3) (answer : Answer) (yea : (a : ℕ) → commits answer a ≡ true) (out : Called) where
+        half : (full - 3) / 2 ≡ size
+        half = omega arith
+
+        abbrev By : Answer → Type 0
+        By a = Inv (awaits false a) (entered (commits a full) n text b) (out .after)
+
+        write-ended : Outcome S b (entered true n text b) size answer out → Entered full out
+        unfolding awaits commits entered
+        write-ended (done e y) =
+            subst By (sym e)
+            (subst (λ (s : Bool). Inv (awaits false answer) (entered s n text b) (out .after)) (sym (yea full)) (ready-inv y))
+        write-ended (dropped i p e x) =
+            subst By (sym e)
+            (subst (λ (s : Bool). Inv true (entered s n text b) (out .after)) (sym (ap (λ (k : ℕ). ltb k i) half ∙ le-ltb size i p))
+            (cut-only (not-so x)))
+          where
+            not-so : Holds S b (out .after) → Holds S (entered false n text b) (out .after)
+            not-so w = w
+        write-ended (kept i p e x) =
+            subst By (sym e)
+            (subst (λ (s : Bool). Inv true (entered s n text b) (out .after)) (sym (ap (λ (k : ℕ). ltb k i) half ∙ lt-ltb size i p))
+            (cut-only x))
 
       abbrev most : ℕ
       most = storesOf ((write keys n text (2 ^ 64 - 1) m) .answer)
 
       module _ (open-now : accessRefusal keys n text m ≡ 0) where
-        inside : n < lines h
-        inside = subst (λ (d : ℕ). n < lines d) (v .deep) (access-accepted keys n text m open-now .inside)
-
-        full : length text ≡ 64
-        full = access-accepted keys n text m open-now .buffer
+        w : Access S b m n
+        w = open-line n text open-now
 
         -- its minor is 127
         worn : b .count n ≡ 127 → write keys n text allowance m ≡ refuse m 26 0 0
         unfolding writeJudged writePath writeLoaded
         worn e =
-            ap (λ (k : ℕ). writeJudged k keys n text allowance m) open-now ∙ ap (writePath keys n text allowance m) (path-is keys keyed h low high b m v r n inside)
-            ∙ ap (λ (y : Bool). cond y (refuse m 26 0 0)
-            (storing allowance m (writeStores (depth (m .control)) keys n text (walk keys keyed h low high b m v r n inside .cache) (walk keys keyed h low high b m v r n inside .cells))
-            (Done (length (writeStores (depth (m .control)) keys n text (walk keys keyed h low high b m v r n inside .cache) (walk keys keyed h low high b m v r n inside .cells))) 0)
-            (writtenCache (depth (m .control)) keys n (walk keys keyed h low high b m v r n inside .cache))))
-            (eq-eqb (lineMinor (walk keys keyed h low high b m v r n inside .cache) n) 127 (minor-is keys keyed h low high b m v r n inside ∙ e))
+            ap (λ (k : ℕ). writeJudged k keys n text allowance m) open-now ∙ ap (writePath keys n text allowance m) (path-is w)
+            ∙ ap (λ (y : Bool). cond y (refuse m 26 0 0) (storing allowance m batch (Done (length batch) 0)
+            (writtenCache (depth (m .control)) keys n (walk w .cache)))) (eq-eqb (lineMinor (walk w .cache) n) 127 (minor-is w ∙ e))
+          where
+            batch : List Store
+            batch = writeStores (depth (m .control)) keys n text (walk w .cache) (walk w .cells)
 
         module _ (room : b .count n < 127) where
-          abbrev xs : List Store
-          xs = batchStores (cells keys keyed h low high b m v r n inside room text full plain open-now) (root-new keys keyed h low high b m v r n inside room text full plain open-now)
+          t : Writable w text
+          t = record { room = room; full = access-accepted keys n text m open-now .entry .buffer; plain = plain; open-now = open-now }
 
-          stores-of : length xs ≡ 2 * length (cells keys keyed h low high b m v r n inside room text full plain open-now) + 3
-          stores-of = length-batch _ _ (some-new keys keyed h low high b m v r n inside room text full plain open-now)
+          abbrev xs : List Store
+          xs = batchStores (cells w t) (root-new w t)
+
+          stores-of : length xs ≡ 2 * length (cells w t) + 3
+          stores-of = length-batch _ _ (some-new w t)
 
           most-is : most ≡ length xs
           unfolding storesOf
           most-is =
-              ap (λ (c : Called). storesOf (c .answer)) (write-is keys keyed h low high b m v r n inside room text full plain open-now (2 ^ 64 - 1))
+              ap (λ (c : Called). storesOf (c .answer)) (write-is w t (2 ^ 64 - 1))
               ∙ cases (λ c. storesOf (c .answer) ≡ length xs) (2 ^ 64 - 1) m xs (Done (length xs) 0) _
-              (λ p. absurd (omega (arith, p, stores-of, few-new keys keyed h low high b m v r n inside room text full plain open-now))) (λ p. refl)
+              (λ p. absurd (omega (arith, p, stores-of, few-new w t))) (λ p. refl)
 
           write-done : Entered most (write keys n text allowance m)
-          unfolding awaits commits
+          unfolding commits
           write-done =
-              subst (Entered most) (sym (write-is keys keyed h low high b m v r n inside room text full plain open-now allowance))
-              (write-ended _ most (Done (length xs) 0) _ (most-is ∙ stores-of) (λ a. refl) refl
-              (write-outcome keys keyed h low high b m v r n inside room text full plain open-now (Done (length xs) 0) allowance))
+              subst (Entered most) (sym (write-is w t allowance))
+              (write-ended _ most (most-is ∙ stores-of) (Done (length xs) 0) (λ a. refl) _
+              (write-outcome w t (Done (length xs) 0) allowance))
 
         write-opened : Entered most (write keys n text allowance m)
         write-opened = go (eq-or-not (b .count n) 127)
           where
             go : (b .count n ≡ 127) ⊎ (b .count n ≡ 127 → ⊥) → Entered most (write keys n text allowance m)
             go (inl z) = subst (Entered most) (sym (worn z)) (not-entered most 26 0 0)
-            go (inr z) = write-done (omega (arith, was keys keyed h low high b m v r n inside .durable .small n, z))
+            go (inr z) = write-done (omega (arith, was w .keeps .durable .small .minor n, z))
 
       write-own : Entered most (write keys n text allowance m)
       unfolding writeJudged
@@ -162,85 +187,85 @@ module _ (keys : List ℕ) (keyed : Below 256 keys) (k48 : length keys ≡ 48) (
         where
           go : (k : ℕ) → accessRefusal keys n text m ≡ k → Entered most (write keys n text allowance m)
           go zero e = write-opened e
-          go (suc k) e = subst (Entered most) (sym (ap (λ (i : ℕ). writeJudged i keys n text allowance m) e)) (not-entered most (suc k) 0 0)
+          go (suc k) e =
+              subst (Entered most) (sym (ap (λ (i : ℕ). writeJudged i keys n text allowance m) e)) (not-entered most (suc k) 0 0)
 
   -- ---- a recovery
 
-  recover-own : (aw : Bool) (b : Book) (m : Module) → Inv aw b m → (allowance : ℕ) → Inv (awaits aw ((recover keys allowance m) .answer)) b ((recover keys allowance m) .after)
+  recover-own : (aw : Bool) {b : Book} {m : Module} → Inv aw b m → (allowance : ℕ) → Leads aw b (recover keys allowance m)
   unfolding awaits
-  recover-own aw b m v allowance = go (ends keys k48 h low high b m (v .holds) allowance)
+  recover-own aw {b} {m} v allowance = go (ends (v .holds) allowance)
     where
-      go : Ends keys k48 h low high b m (v .holds) allowance (recover keys allowance m) → Inv (awaits aw ((recover keys allowance m) .answer)) b ((recover keys allowance m) .after)
-      go (cut n e x) = cut-inv aw b (recover keys allowance m) n e x
-      go (rebuilt n t e s x y) =
-          subst (λ (a : Answer). Inv (awaits aw a) b ((recover keys allowance m) .after)) (sym e) (record { holds = x; ready = λ z. y })
+      go : Ends S b (recover keys allowance m) → Leads aw b (recover keys allowance m)
+      go (cut n e x) = cut-inv aw (recover keys allowance m) n e x
+      go (rebuilt n t e s y) = subst (λ (a : Answer). Inv (awaits aw a) b ((recover keys allowance m) .after)) (sym e) (ready-inv y)
 
-  -- ---- the others
+  -- ---- each event
 
-  WriteInv : Bool → Book → Module → List ℕ → ℕ → List ℕ → ℕ → Type 0
-  WriteInv aw b m given n text allowance =
-      Inv (awaits aw ((write given n text allowance m) .answer))
-      (entered (commits ((write given n text allowance m) .answer) (storesOf ((write given n text (2 ^ 64 - 1) m) .answer))) n text b) ((write given n text allowance m) .after)
+  module _ {aw : Bool} {b : Book} {m : Module} (v : Inv aw b m) where
+    read-event : aw ≡ false → (given : List ℕ) (n allowance : ℕ) (out : List ℕ)
+        → Keyed keys given (read given n allowance out m .called .answer) → Leads aw b (read given n allowance out m .called)
+    read-event idle given n allowance out (inl z) =
+        subst (λ (g : List ℕ). Leads aw b (read g n allowance out m .called)) (sym z)
+        (subst (λ (s : Bool). Leads s b (read keys n allowance out m .called)) (sym idle) (read-own (v .ready idle) n allowance out))
+    read-event idle given n allowance out (inr s) = refused-inv _ v (read-same m given n allowance out) s
 
-  write-event : (aw : Bool) (b : Book) (m : Module) → Inv aw b m → aw ≡ false → (given : List ℕ) (n : ℕ) (text : List ℕ) → Below 256 text → (allowance : ℕ)
-      → (given ≡ keys) ⊎ ((i : ℕ) × (x : ℕ) × (y : ℕ) × ((write given n text allowance m) .answer ≡ Refused i 0 x y)) → WriteInv aw b m given n text allowance
-  unfolding WriteInv awaits commits entered
-  write-event aw b m v idle given n text plain allowance (inl z) =
-      subst (λ (g : List ℕ). WriteInv aw b m g n text allowance) (sym z)
-      (subst (λ (s : Bool). WriteInv s b m keys n text allowance) (sym idle) (write-own b m (v .holds) (v .ready idle) n text plain allowance))
-  write-event aw b m v idle given n text plain allowance (inr s) =
-      subst (λ (a : Answer). Inv (awaits aw a) (entered (commits a (storesOf ((write given n text (2 ^ 64 - 1) m) .answer))) n text b) ((write given n text allowance m) .after)) (sym (s .3))
-      (subst (Inv aw b) (sym (write-same m given n text allowance (s .0) (s .1) (s .2) (s .3))) v)
+    WriteInv : Bool → List ℕ → ℕ → List ℕ → ℕ → Answer → Type 0
+    WriteInv s given n text allowance a =
+        Inv (awaits s a) (entered (commits a (storesOf ((write given n text (2 ^ 64 - 1) m) .answer))) n text b)
+        ((write given n text allowance m) .after)
 
-  list-event : (aw : Bool) (b : Book) (m : Module) → Inv aw b m → aw ≡ false → (k : ℕ) → Inv (awaits aw ((listCall k m) .answer)) b ((listCall k m) .after)
-  unfolding listCall awaits
-  list-event aw b m v idle zero = record { holds = v .holds; ready = λ z. v .ready idle }
-  list-event aw b m v idle (suc k) = v
+    write-event : aw ≡ false → (given : List ℕ) (n : ℕ) (text : List ℕ) → Below 256 text → (allowance : ℕ)
+        → Keyed keys given ((write given n text allowance m) .answer)
+        → WriteInv aw given n text allowance ((write given n text allowance m) .answer)
+    unfolding WriteInv awaits commits entered
+    write-event idle given n text plain allowance (inl z) =
+        subst (λ (g : List ℕ). WriteInv aw g n text allowance ((write g n text allowance m) .answer)) (sym z)
+        (subst (λ (s : Bool). WriteInv s keys n text allowance ((write keys n text allowance m) .answer)) (sym idle)
+        (write-own (v .ready idle) n text plain allowance))
+    write-event idle given n text plain allowance (inr s) =
+        subst (WriteInv aw given n text allowance) (sym (s .3))
+        (subst (Inv aw b) (sym (write-same m given n text allowance (s .0) (s .1) (s .2) (s .3))) v)
 
-  abbrev chosen : List ℕ → ℕ → Module → ℕ → Called
-  chosen given d m k = elim k as (λ z. Called) [ zero ↦ formatted given d | suc n ↦ refuse m (suc n) 0 0 ]
+    recover-event : (given : List ℕ) (allowance : ℕ) → Keyed keys given ((recover given allowance m) .answer)
+        → Leads aw b (recover given allowance m)
+    recover-event given allowance (inl z) = subst (λ (g : List ℕ). Leads aw b (recover g allowance m)) (sym z) (recover-own aw v allowance)
+    recover-event given allowance (inr s) = refused-inv _ v (recover-same given allowance m) s
 
-  format-event : (aw : Bool) (b : Book) (m : Module) → Inv aw b m → (given : List ℕ) (d k : ℕ) → ((chosen given d m k) .answer ≡ Done 0 0 → ⊥)
-      → Inv (awaits aw ((chosen given d m k) .answer)) b ((chosen given d m k) .after)
-  unfolding formatted awaits
-  format-event aw b m v given d zero nay = absurd (nay refl)
-  format-event aw b m v given d (suc k) nay = v
+    list-event : aw ≡ false → (k : ℕ) → Leads aw b (listCall k m)
+    unfolding listCall awaits
+    list-event idle zero = ready-inv (v .ready idle)
+    list-event idle (suc k) = v
 
-  power-event : (aw : Bool) (b : Book) (m : Module) → Inv aw b m → (c : List ℕ) → length c ≡ length (m .cache) → Below 256 c
-      → Inv (awaits aw (Cut 0)) b (record { array = m .array; control = m .control; cache = c })
-  unfolding awaits
-  power-event aw b m v c size plain =
-      let s = v .holds in
-      record {
-        holds = record { sized = size ∙ s .sized; plain = plain; formed = s .formed; right = s .right; deep = s .deep; settled = s .settled };
-        ready = λ z. absurd (false≢true (sym z));
-      }
+    abbrev chosen : List ℕ → ℕ → ℕ → Called
+    chosen given d k = elim k as (λ z. Called) [ zero ↦ formatted given d | suc n ↦ refuse m (suc n) 0 0 ]
 
-  -- ---- every event
+    format-event : (given : List ℕ) (d k : ℕ) → ((chosen given d k) .answer ≡ Done 0 0 → ⊥) → Leads aw b (chosen given d k)
+    unfolding formatted awaits
+    format-event given d zero nay = absurd (nay refl)
+    format-event given d (suc k) nay = v
 
-  pub event : (e : Event) (aw : Bool) (b : Book) (m : Module) → Inv aw b m → Admitted keys aw m e → Inv (awaits aw ((step e m) .answer)) (bookAfter e m b) ((step e m) .after)
-  unfolding Admitted step bookAfter WriteInv format
-  event (reads given n allowance out) aw b m v ok = go (ok .1)
-    where
-      go : (given ≡ keys) ⊎ ((i : ℕ) × (x : ℕ) × (y : ℕ) × ((read given n allowance out m) .called .answer ≡ Refused i 0 x y))
-          → Inv (awaits aw ((read given n allowance out m) .called .answer)) b ((read given n allowance out m) .called .after)
-      go (inl z) =
-          subst (λ (g : List ℕ). Inv (awaits aw ((read g n allowance out m) .called .answer)) b ((read g n allowance out m) .called .after)) (sym z)
-          (subst (λ (s : Bool). Inv (awaits s ((read keys n allowance out m) .called .answer)) b ((read keys n allowance out m) .called .after)) (sym (ok .0))
-          (read-own b m (v .holds) (v .ready (ok .0)) n allowance out))
-      go (inr s) =
-          refused-inv aw b m ((read given n allowance out m) .called) v (read-same m given n allowance out (s .0) (s .1) (s .2) (s .3)) (s .0) 0 (s .1) (s .2) (s .3)
-  event (writes given n text allowance) aw b m v ok = write-event aw b m v (ok .0) given n text (record { at = ok .4 }) allowance (ok .1)
-  event (recovers given allowance) aw b m v ok = go (ok .0)
-    where
-      go : (given ≡ keys) ⊎ ((i : ℕ) × (x : ℕ) × (y : ℕ) × ((recover given allowance m) .answer ≡ Refused i 0 x y))
-          → Inv (awaits aw ((recover given allowance m) .answer)) b ((recover given allowance m) .after)
-      go (inl z) =
-          subst (λ (g : List ℕ). Inv (awaits aw ((recover g allowance m) .answer)) b ((recover g allowance m) .after)) (sym z) (recover-own aw b m v allowance)
-      go (inr s) = refused-inv aw b m (recover given allowance m) v (recover-same given allowance m (s .0) (s .1) (s .2) (s .3)) (s .0) 0 (s .1) (s .2) (s .3)
-  event (lists out) aw b m v ok = list-event aw b m v (ok .0) (listRefusal (m .control) (m .cache) out)
-  event (formats given d) aw b m v ok = format-event aw b m v given d (formatRefusal given d m) (ok .2)
-  event (powerCut c) aw b m v ok = power-event aw b m v c (ok .0) (record { at = ok .1 })
+    power-event : (c : List ℕ) → length c ≡ length (m .cache) → Below 256 c
+        → Inv true b (record { array = m .array; control = m .control; cache = c })
+    power-event c size plain =
+        let s = v .holds in
+        cut-only (record {
+          sized = size ∙ s .sized;
+          plain = plain;
+          formed = s .formed;
+          right = s .right;
+          deep = s .deep;
+          settled = s .settled;
+        })
+
+    event : (e : Event) → Admitted keys aw m e → Inv (awaits aw ((step e m) .answer)) (bookAfter e m b) ((step e m) .after)
+    unfolding Admitted step bookAfter awaits WriteInv format
+    event (reads given n allowance out) ok = read-event (ok .0) given n allowance out (ok .1)
+    event (writes given n text allowance) ok = write-event (ok .0) given n text (record { at = ok .4 }) allowance (ok .1)
+    event (recovers given allowance) ok = recover-event given allowance (ok .0)
+    event (lists out) ok = list-event (ok .0) (listRefusal (m .control) (m .cache) out)
+    event (formats given d) ok = format-event given d (formatRefusal given d m) (ok .2)
+    event (powerCut c) ok = power-event c (ok .0) (record { at = ok .1 })
 
   -- ---- and a list of them
 
@@ -252,5 +277,5 @@ module _ (keys : List ℕ) (keyed : Below 256 keys) (k48 : length keys ≡ 48) (
   unfolding Allowed bookOf moduleAfter
   led [] rest aw b m v ok = record { awaited = aw; inv = v }
   led (e ∷ es) rest aw b m v ok =
-      let r = led es rest (awaits aw ((step e m) .answer)) (bookAfter e m b) ((step e m) .after) (event e aw b m v (ok .0)) (ok .1) in
+      let r = led es rest (awaits aw ((step e m) .answer)) (bookAfter e m b) ((step e m) .after) (event v e (ok .0)) (ok .1) in
       record { awaited = r .awaited; inv = r .inv }

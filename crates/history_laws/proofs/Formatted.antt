@@ -10,17 +10,27 @@ use Rattle.words.specs.Bytes.{fromLe, part}
 use Rattle.words.proofs.Digits.{below-take, below-drop}
 use Rattle.words.proofs.Zeros.{below-zeros, number-zeros}
 use Rattle.memory_map.specs.Map.{pages, lines, levelStart, shadowStart, shadowCells, cellOf}
-use Rattle.memory_map.specs.Map.Item.{node}
 use Rattle.memory_map.proofs.Laws.{nodes-bottom}
 use Rattle.counter.specs.Counter.{major, minor}
-use Rattle.cache.specs.Cache.{cellContent, shadowOwner}
+use Rattle.cache.specs.Cache.{shadowOwner}
 use Rattle.calls.specs.Recovery.{phaseByte}
-use Rattle.calls.specs.Format.{freshNode, freshArray}
+use Rattle.calls.specs.Format.{freshArray}
+use Rattle.call_laws.proofs.Fresh.{array-length}
 use Rattle.call_laws.proofs.FreshCells.{none, lines-zero, shadows-zero, node-stored}
+use Rattle.history_laws.proofs.Setting.{Setting, Tree, Small, treeNode, nodeIn}
 use Rattle.history_laws.proofs.Tree.{fresh-major, fresh-minor}
 use Rattle.history_laws.proofs.Recovered.{Durable}
 
-module _ (keys : List ℕ) (h : ℕ) where
+-- no line is written
+abbrev pub noWrites : Tree
+noWrites = record { count = none }
+
+no-counts : Small noWrites
+no-counts = record { minor = λ n. lit< tt }
+
+module _ (S : Setting) where
+  open Setting S using (keys, h)
+
   pub none-listed : (s : ℕ) → shadowOwner h (freshArray keys h) s ≡ 0
   unfolding shadowOwner cellOf shadowStart
   none-listed s =
@@ -36,19 +46,20 @@ module _ (keys : List ℕ) (h : ℕ) where
       sym (getD-take (72 * lines h) (freshArray keys h) (72 * n + 64) 0 (omega arith))
       ∙ ap (λ (a : List ℕ). getD a (72 * n + 64) 0) (lines-zero keys h) ∙ getD-replicate (72 * lines h) (72 * n + 64) 0 0 (omega arith)
 
-  fresh-page : (p : ℕ) → p < pages h → cellContent (freshArray keys h) (cellOf h (node 0 p)) ≡ freshNode keys none 0 p
+  fresh-page : (p : ℕ) → p < pages h → nodeIn S (freshArray keys h) 0 p ≡ treeNode S noWrites 0 p
   fresh-page p q = node-stored keys h 0 p zero-le (omega (arith, nodes-bottom h))
 
-  no-minor : (p j : ℕ) → p < pages h → j < 64 → minor (cellContent (freshArray keys h) (cellOf h (node 0 p))) j ≡ 0
-  no-minor p j q r = ap (λ (b : List ℕ). minor b j) (fresh-page p q) ∙ fresh-minor keys none (λ x. lit< tt) p j r
+  no-minor : (p j : ℕ) → p < pages h → j < 64 → minor (nodeIn S (freshArray keys h) 0 p) j ≡ 0
+  no-minor p j q r = ap (λ (b : List ℕ). minor b j) (fresh-page p q) ∙ fresh-minor S no-counts p j r
 
-  pub formatted-durable : Durable keys h none (freshArray keys h)
+  pub formatted-durable : Durable S noWrites (freshArray keys h)
   formatted-durable =
       record {
-        small = λ x. lit< tt;
+        whole = array-length keys h;
+        small = no-counts;
         owners = record { belong = λ s i p e. absurd (omega (arith, e, none-listed s)); top = λ z s p. none-listed s };
         stored = λ l i p q o. node-stored keys h l i p q;
-        majors = λ p q. ap major (fresh-page p q) ∙ fresh-major keys none (λ x. lit< tt) p;
+        majors = λ p q. ap major (fresh-page p q) ∙ fresh-major S no-counts p;
         behind = λ p j q r. omega (arith, no-minor p j q r);
         near = λ p j q r. omega (arith, no-minor p j q r);
         phases = λ n p. no-phase n p;

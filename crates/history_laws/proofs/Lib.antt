@@ -1,14 +1,17 @@
+pub mod Batch
 pub mod Events
 pub mod First
 pub mod Formatted
 pub mod Live
 pub mod Outcome
+pub mod Pending
 pub mod Reading
 pub mod Recovered
 pub mod Recovery
 pub mod Refused
 pub mod Renewed
 pub mod Rule
+pub mod Setting
 pub mod State
 pub mod Stores
 pub mod Told

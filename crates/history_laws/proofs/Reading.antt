@@ -4,7 +4,7 @@ use mathlib.Core.Path.{_≡_, sym, ap, ap₂, _∙_, subst}
 use mathlib.Core.Bool.{Bool, true, false, cond}
 use mathlib.Core.List.{List}
 use mathlib.Core.Option.{Option, none, some}
-use Prim.Native.Nat.{ℕ, _+_, _*_, _≤_, _<_}
+use Prim.Native.Nat.{ℕ, _+_, _*_, _<_}
 use native.Mathlib.Omega.{arith}
 use borrow.Author.Tests.{eq-eqb, ne-eqb}
 use lib.Dec.{lit≤}
@@ -12,89 +12,110 @@ use lib.ListN.{length, replicate, take, drop}
 use lib.Seq.{take-at, drop-at, take-all, take-take}
 use Rattle.memory_map.proofs.Laws.{page-inside}
 use Rattle.words.specs.Bytes.{fromLe, part}
-use Rattle.words.proofs.Digits.{Below, length-digits}
 use Rattle.words.proofs.Parts.{part-part}
 use Rattle.memory_map.specs.Map.{pageOf, pages, lines}
 use Rattle.counter.specs.Counter.{major}
 use Rattle.pad.specs.Pad.{pad, xorBytes}
 use Rattle.pad.proofs.Xor.{xor-back}
 use Rattle.pad.proofs.Nonce.{length-pad}
-use Rattle.tag.specs.Tag.{dataTag}
 use Rattle.answer.specs.declared.Answer.the-variants.{Done, Blank}
 use Rattle.control.specs.Control.{root, count}
 use Rattle.cache.specs.Cache.{cellContent}
 use Rattle.journal.specs.Journal.{Store, batchStores}
 use Rattle.journal.proofs.Again.{put-cells}
 use Rattle.calls.specs.Call.{Module, mediaOf, refuse, pathOf, accessRefusal}
-use Rattle.calls.specs.Read.{Reading, sideBytes, sideOk, lineText, pageBlock, lineMinor, answered, readLoaded, readPath, readJudged, read, refusedRead}
-use Rattle.calls.specs.Format.{freshRoot}
+use Rattle.calls.specs.Read.{Reading, sideBytes, sideOk, lineText, pageBlock, lineMinor}
+use Rattle.calls.specs.Read.{answered, readLoaded, readPath, readJudged, read, refusedRead}
 use Rattle.calls.specs.Path.{loaded, loadPath}
 use Rattle.calls.specs.History.{Book}
 use Rattle.call_laws.proofs.Loads.{Loads, LoadsIf, path-loads}
-use Rattle.history_laws.proofs.Walked.{Walked, walked}
-use Rattle.history_laws.proofs.Written.{dataBytes, length-cipher, minor-is as minor-held, major-is as major-held}
+use Rattle.history_laws.proofs.Setting.{Setting, treeOf, treeRoot, padOf, cipherOf, sideOf}
+use Rattle.history_laws.proofs.Walked.{Array, Walked, walked}
+use Rattle.history_laws.proofs.Written.{dataBytes, length-cipher, length-side}
+use Rattle.history_laws.proofs.Written.{Reached, minor-is as minor-held, major-is as major-held}
 use Rattle.history_laws.proofs.State.{RowOk, Settled, Holds, Ready, settled-now}
 
-module _ (keys : List ℕ) (keyed : Below 256 keys) (h : ℕ) (low : 1 ≤ h) (high : h ≤ 3) (b : Book) (m : Module) (held : Holds keys h low high b m) (ready : Ready keys h low high b m)
-    (n : ℕ) (inside : n < lines h) where
-  pub was : Settled keys h low high b (mediaOf m)
-  was = settled-now keys h low high b m held (ready .idle)
+-- a line of a module that is ready
+pub record Access (S : Setting) (b : Book) (m : Module) (n : ℕ) : Type 0 where
+  pub ready : Ready S b m
+  pub inside : n < lines (S .h)
+
+module _ {S : Setting} {b : Book} {m : Module} {n : ℕ} (w : Access S b m n) where
+  open Setting S using (keys, h, low, high)
+  open Access w using (ready, inside)
+
+  abbrev held : Holds S b m
+  held = ready .holds
+
+  pub was : Settled S b (mediaOf m)
+  was = settled-now held (ready .idle)
 
   pub page : pageOf n < pages h
   page = page-inside h n inside
 
-  pub walk : Walked keys h low high (b .count) (m .array) (held .formed .array-length) (held .formed .array-bytes) keyed (pageOf n) page (m .cache)
-  walk = walked keys h low high (b .count) (m .array) (held .formed .array-length) (held .formed .array-bytes) keyed (pageOf n) page (m .cache) (ready .live)
+  pub whole : Array S (m .array)
+  whole = record { whole = held .formed .array-length; plain = held .formed .array-bytes }
+
+  pub walk : Walked (treeOf b) whole (pageOf n) page (m .cache)
+  walk = walked (treeOf b) whole (pageOf n) page (m .cache) (ready .live)
 
   pub path-is : pathOf keys n m ≡ loaded (walk .cache) (walk .cells)
   path-is = ap₂ (λ (d r : ℕ). loadPath d keys (m .array) r (pageOf n) (m .cache)) (held .deep) (was .top) ∙ walk .same
 
-  pub loads : Loads h low high keys (m .array) (held .formed .array-length) (held .formed .array-bytes) (pageOf n) page (walk .cache) (walk .cells)
+  pub loads : Loads h (walk .cache) (walk .cells)
   unfolding LoadsIf
   loads =
-      subst (LoadsIf h low high keys (m .array) (held .formed .array-length) (held .formed .array-bytes) (pageOf n) page) (walk .same)
-      (path-loads h low high keys (m .array) (held .formed .array-length) (held .formed .array-bytes) (pageOf n) page (freshRoot keys (b .count) h) (m .cache) (ready .live .fit))
+      subst (LoadsIf h) (walk .same)
+      (path-loads h low high keys (m .array) (whole .whole) (whole .plain) (pageOf n) page (treeRoot S (treeOf b)) (m .cache)
+      (ready .live .fit))
+
+  pub reached : Reached S (treeOf b) (put-cells (m .array) (walk .cells)) (walk .cache) n
+  reached = record { live = walk .live; inside = inside; held = walk .path }
 
   pub minor-is : lineMinor (walk .cache) n ≡ b .count n
-  minor-is = minor-held keys h low high (b .count) (put-cells (m .array) (walk .cells)) (walk .cache) (walk .live) n inside (walk .path)
+  minor-is = minor-held reached
 
   pub major-is : major (pageBlock (walk .cache) n) ≡ 0
-  major-is = major-held keys h low high (b .count) (put-cells (m .array) (walk .cells)) (walk .cache) (walk .live) n inside (walk .path)
+  major-is = major-held reached
 
   abbrev pub stores : List Store
   stores = batchStores (walk .cells) (root (m .control))
 
   -- ---- the text
 
-  module _ (t : List ℕ) (full : length t ≡ 64) (row : part (m .array) (72 * n) 72 ≡ dataBytes keys n t (b .count n)) where
+  module _ (t : List ℕ) (full : length t ≡ 64) (row : part (m .array) (72 * n) 72 ≡ dataBytes S (treeOf b) n t) where
     abbrev cipher : List ℕ
-    cipher = xorBytes t (pad keys n 0 (b .count n))
+    cipher = cipherOf S (treeOf b) n t
+
+    abbrev side : List ℕ
+    side = sideOf S (treeOf b) n t
 
     cipher-is : cellContent (m .array) n ≡ cipher
     unfolding cellContent dataBytes
     cipher-is =
         sym (take-take 64 72 (drop (72 * n) (m .array)) (lit≤ tt)) ∙ ap (take 64) row
-        ∙ take-at cipher (sideBytes keys cipher n 0 (b .count n)) 64 (length-cipher keys n t full (b .count n))
+        ∙ take-at cipher side 64 (length-cipher S (treeOf b) n t full)
 
-    side-is : part (m .array) (72 * n + 64) 8 ≡ sideBytes keys cipher n 0 (b .count n)
+    side-is : part (m .array) (72 * n + 64) 8 ≡ side
     unfolding dataBytes
     side-is =
         sym (part-part (m .array) (72 * n) 72 64 8 (lit≤ tt)) ∙ ap (λ (l : List ℕ). part l 64 8) row
-        ∙ ap (take 8) (drop-at cipher (sideBytes keys cipher n 0 (b .count n)) 64 (length-cipher keys n t full (b .count n)))
-        ∙ take-all 8 (sideBytes keys cipher n 0 (b .count n)) (omega (arith, length-digits 256 7 (dataTag keys cipher n 0 (b .count n))))
+        ∙ ap (take 8) (drop-at cipher side 64 (length-cipher S (treeOf b) n t full))
+        ∙ take-all 8 side (omega (arith, length-side S (treeOf b) n t full))
 
     side-ok : sideOk keys (m .array) (walk .cache) n ≡ true
     unfolding sideOk
     side-ok =
         eq-eqb _ _
-        (ap fromLe side-is ∙ sym (ap fromLe (ap₂ (λ (l : List ℕ) (k : ℕ). sideBytes keys l n k (lineMinor (walk .cache) n)) cipher-is major-is
+        (ap fromLe side-is
+        ∙ sym (ap fromLe (ap₂ (λ (l : List ℕ) (k : ℕ). sideBytes keys l n k (lineMinor (walk .cache) n)) cipher-is major-is
         ∙ ap (sideBytes keys cipher n 0) minor-is)))
 
     text-is : lineText keys (m .array) (walk .cache) n ≡ t
     unfolding lineText
     text-is =
         ap₂ xorBytes cipher-is (ap₂ (pad keys n) major-is minor-is)
-        ∙ xor-back t (pad keys n 0 (b .count n)) (omega (arith, length-pad keys n 0 (b .count n)))
+        ∙ xor-back t (padOf S (treeOf b) n) (omega (arith, length-pad keys n 0 (b .count n)))
 
   -- ---- what a read answers
 
@@ -106,19 +127,24 @@ module _ (keys : List ℕ) (keyed : Below 256 keys) (h : ℕ) (low : 1 ≤ h) (h
     chosen : Bool → Bool → Reading
     chosen x y =
         cond x (answered allowance m stores (Blank (length stores)) (walk .cache) (replicate 64 0) out)
-        (cond y (answered allowance m stores (Done (length stores) 0) (walk .cache) (lineText keys (m .array) (walk .cache) n) out) (refusedRead (refuse m 25 n 0) out))
+        (cond y (answered allowance m stores (Done (length stores) 0) (walk .cache) (lineText keys (m .array) (walk .cache) n) out)
+        (refusedRead (refuse m 25 n 0) out))
 
-    pub reads-blank : b .text n ≡ none → read keys n allowance out m ≡ answered allowance m stores (Blank (length stores)) (walk .cache) (replicate 64 0) out
+    pub reads-blank : b .text n ≡ none
+        → read keys n allowance out m ≡ answered allowance m stores (Blank (length stores)) (walk .cache) (replicate 64 0) out
     unfolding readLoaded chosen RowOk
     reads-blank e =
-        let none-yet : b .count n ≡ 0 = subst (λ (o : Option (List ℕ)). RowOk keys n (b .count n) o (m .array)) e (was .rows n inside) in
-        opened ∙ ap (λ (x : Bool). chosen x (sideOk keys (m .array) (walk .cache) n)) (eq-eqb (lineMinor (walk .cache) n) 0 (minor-is ∙ none-yet))
+        let none-yet : b .count n ≡ 0 = subst (λ (o : Option (List ℕ)). RowOk S (treeOf b) n o (m .array)) e (was .keeps .rows n inside) in
+        opened ∙ ap (λ (x : Bool). chosen x (sideOk keys (m .array) (walk .cache) n))
+        (eq-eqb (lineMinor (walk .cache) n) 0 (minor-is ∙ none-yet))
 
-    pub reads-text : (t : List ℕ) → b .text n ≡ some t → read keys n allowance out m ≡ answered allowance m stores (Done (length stores) 0) (walk .cache) t out
+    pub reads-text : (t : List ℕ) → b .text n ≡ some t
+        → read keys n allowance out m ≡ answered allowance m stores (Done (length stores) 0) (walk .cache) t out
     unfolding readLoaded chosen RowOk
     reads-text t e =
-        let row = subst (λ (o : Option (List ℕ)). RowOk keys n (b .count n) o (m .array)) e (was .rows n inside) in
+        let row = subst (λ (o : Option (List ℕ)). RowOk S (treeOf b) n o (m .array)) e (was .keeps .rows n inside) in
         opened
-        ∙ ap (λ (x : Bool). chosen x (sideOk keys (m .array) (walk .cache) n)) (ne-eqb (lineMinor (walk .cache) n) 0 (λ z. omega (arith, minor-is, row .0, z)))
+        ∙ ap (λ (x : Bool). chosen x (sideOk keys (m .array) (walk .cache) n))
+        (ne-eqb (lineMinor (walk .cache) n) 0 (λ z. omega (arith, minor-is, row .0, z)))
         ∙ ap (chosen false) (side-ok t (row .1) (row .3))
         ∙ ap (λ (l : List ℕ). answered allowance m stores (Done (length stores) 0) (walk .cache) l out) (text-is t (row .1) (row .3))

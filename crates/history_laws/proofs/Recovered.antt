@@ -11,34 +11,43 @@ use native.Mathlib.Omega.{arith}
 use borrow.Author.Tests.{le-leb, eq-eqb}
 use lib.ListN.{length, getD, take, drop}
 use Rattle.words.proofs.Order.{eq-or-not}
-use Rattle.memory_map.specs.Map.{pages, lines, nodes, slots, cellOf}
-use Rattle.memory_map.specs.Map.Item.{node}
+use Rattle.memory_map.specs.Map.{pages, lines, nodes, slots, arrayLength}
 use Rattle.memory_map.proofs.Laws.{nodes-small, nodes-below, nodes-bottom, nodes-some}
 use Rattle.slot_map.specs.Slots.{cacheLength, slotOf, levelOf}
 use Rattle.slot_map.proofs.Laws.{slot-within, level-slot, level-low, level-high, level-within, belongs-node}
 use Rattle.counter.specs.Counter.{major, minors, minor, counterBlock, phaseOf, forward, mayForward}
 use Rattle.counter.proofs.Laws.{length-minors, forward-reaches}
-use Rattle.tag.specs.Tag.{nodeTag}
-use Rattle.cache.specs.Cache.{owner, dirty, content, shadowOwner, shadowOwners, cellContent, withSlot, emptyCache, from, topSlot, holds, current}
-use Rattle.cache.proofs.Laws.{Owned, Formed, not-bad, length-with, owner-same, dirty-same, content-same, owner-other, dirty-other, content-other, length-empty, owner-empty, dirty-empty, holds-owner, owner-holds, current-cached, current-missing}
+use Rattle.cache.specs.Cache.{owner, dirty, content, shadowOwner, shadowOwners, withSlot}
+use Rattle.cache.specs.Cache.{badSlot, emptyCache, from, holds, current}
+use Rattle.cache.proofs.Laws.{Owned, owned-same, Formed, not-bad, length-with, owner-same, dirty-same}
+use Rattle.cache.proofs.Laws.{content-same, owner-other, dirty-other, content-other, length-empty, owner-empty}
+use Rattle.cache.proofs.Laws.{dirty-empty, holds-owner, owner-holds, current-cached, current-missing}
 use Rattle.answer.specs.declared.Answer.the-variants.{Done}
 use Rattle.control.specs.Control.{depth, root}
-use Rattle.calls.specs.Call.{Module}
-use Rattle.calls.specs.Recovery.{phaseByte, forwardFrom, total, Rebuilt, rebuilt, damaged, rebuildBlock, rebuildSlot, rebuildBlocks, rebuildNode, rebuildNodes, recoverRoot, recoverRebuilt, recoverShadow, recoverMedia, refuseAfter}
-use Rattle.calls.specs.Format.{countsFrom, freshNode, freshRoot}
+use Rattle.calls.specs.Call.{Module, Called}
+use Rattle.calls.specs.Recovery.{phaseByte, forwardFrom, total, Rebuilt, rebuilt, damaged}
+use Rattle.calls.specs.Recovery.{rebuildBlock, rebuildSlot, rebuildBlocks, rebuildNode, rebuildNodes, recoverRoot}
+use Rattle.calls.specs.Recovery.{recoverRebuilt, recoverShadow, recoverMedia, refuseAfter}
+use Rattle.calls.specs.Format.{countsFrom, freshNode}
 use Rattle.calls.specs.Path.{childTags}
 use Rattle.call_laws.proofs.Tags.{tags-agree}
-use Rattle.call_laws.proofs.Fresh.{fresh-length}
+use Rattle.history_laws.proofs.Setting.{Setting, Tree, Small, treeNode, treeRoot, nodeIn, tagOf}
+use Rattle.history_laws.proofs.Tree.{tree-length}
 
--- what the media keep of counts f
-pub record Durable (keys : List ℕ) (h : ℕ) (f : ℕ → ℕ) (a : List ℕ) : Type 0 where
-  pub small : (x : ℕ) → f x < 128
-  pub owners : Owned h (shadowOwner h a)
-  pub stored : (l i : ℕ) → l ≤ h → i < nodes h l → (shadowOwner h a (slotOf l i) ≡ suc i → ⊥) → cellContent a (cellOf h (node l i)) ≡ freshNode keys f l i
-  pub majors : (p : ℕ) → p < pages h → major (cellContent a (cellOf h (node 0 p))) ≡ 0
-  pub behind : (p j : ℕ) → p < pages h → j < 64 → minor (cellContent a (cellOf h (node 0 p))) j ≤ f (64 * p + j)
-  pub near : (p j : ℕ) → p < pages h → j < 64 → f (64 * p + j) ≤ minor (cellContent a (cellOf h (node 0 p))) j + phaseOf (f (64 * p + j))
-  pub phases : (n : ℕ) → n < lines h → phaseByte a n ≡ phaseOf (f n)
+-- what an array keeps of a tree
+module _ (S : Setting) (T : Tree) where
+  open Setting S using (h)
+  open Tree T using (count)
+
+  pub record Durable (a : List ℕ) : Type 0 where
+    pub whole : length a ≡ arrayLength h
+    pub small : Small T
+    pub owners : Owned h (shadowOwner h a)
+    pub stored : (l i : ℕ) → l ≤ h → i < nodes h l → (shadowOwner h a (slotOf l i) ≡ suc i → ⊥) → nodeIn S a l i ≡ treeNode S T l i
+    pub majors : (p : ℕ) → p < pages h → major (nodeIn S a 0 p) ≡ 0
+    pub behind : (p j : ℕ) → p < pages h → j < 64 → minor (nodeIn S a 0 p) j ≤ count (64 * p + j)
+    pub near : (p j : ℕ) → p < pages h → j < 64 → count (64 * p + j) ≤ minor (nodeIn S a 0 p) j + phaseOf (count (64 * p + j))
+    pub phases : (n : ℕ) → n < lines h → phaseByte a n ≡ phaseOf (count n)
 
 -- ---- minors brought forward
 
@@ -50,25 +59,28 @@ may-forward s p q r = ap₂ (λ (a b : Bool). a && b) (le-leb p 3 q) (le-leb (fo
 brought : Bool → ℕ → Option (List ℕ) → Option (List ℕ)
 brought b x r = cond b (elim r as (λ z. Option (List ℕ)) [ none ↦ none | some ts ↦ some (x ∷ ts) ]) none
 
-module _ (a : List ℕ) (f : ℕ → ℕ) (small : (x : ℕ) → f x < 128) where
-  forward-counts : (n : ℕ) (ss : List ℕ)
-      → ((k : ℕ) → k < length ss → (getD ss k 0 ≤ f (n + k)) × (f (n + k) ≤ getD ss k 0 + 3))
-      → ((k : ℕ) → k < length ss → phaseByte a (n + k) ≡ phaseOf (f (n + k)))
-      → forwardFrom a n ss ≡ some (countsFrom f n (length ss))
+module _ (a : List ℕ) {T : Tree} (small : Small T) where
+  open Tree T using (count)
+
+  forward-counts : (n : ℕ) (ss : List ℕ) → ((k : ℕ) → k < length ss → (getD ss k 0 ≤ count (n + k)) × (count (n + k) ≤ getD ss k 0 + 3))
+      → ((k : ℕ) → k < length ss → phaseByte a (n + k) ≡ phaseOf (count (n + k)))
+      → forwardFrom a n ss ≡ some (countsFrom count n (length ss))
   unfolding forwardFrom countsFrom brought
   forward-counts n [] near phases = refl
   forward-counts n (s ∷ ss) near phases =
       let here : n + 0 ≡ n = omega arith in
-      let phase : phaseByte a n ≡ phaseOf (f n) = subst (λ (k : ℕ). phaseByte a k ≡ phaseOf (f k)) here (phases 0 (omega arith)) in
-      let reach : forward s (phaseByte a n) ≡ f n =
+      let phase : phaseByte a n ≡ phaseOf (count n) = subst (λ (k : ℕ). phaseByte a k ≡ phaseOf (count k)) here (phases 0 (omega arith)) in
+      let reach : forward s (phaseByte a n) ≡ count n =
       ap (forward s) phase
-      ∙ forward-reaches s (f n) (subst (λ (k : ℕ). s ≤ f k) here (near 0 (omega arith) .0)) (subst (λ (k : ℕ). f k ≤ s + 3) here (near 0 (omega arith) .1)) in
-      let may : mayForward s (phaseByte a n) ≡ true = may-forward s (phaseByte a n) (omega arith) (omega (arith, small n)) in
-      let rest : forwardFrom a (suc n) ss ≡ some (countsFrom f (suc n) (length ss)) =
+      ∙ forward-reaches s (count n) (subst (λ (k : ℕ). s ≤ count k) here (near 0 (omega arith) .0))
+      (subst (λ (k : ℕ). count k ≤ s + 3) here (near 0 (omega arith) .1)) in
+      let may : mayForward s (phaseByte a n) ≡ true = may-forward s (phaseByte a n) (omega arith) (omega (arith, small .minor n)) in
+      let rest : forwardFrom a (suc n) ss ≡ some (countsFrom count (suc n) (length ss)) =
       forward-counts (suc n) ss
-      (λ k q. subst (λ (j : ℕ). (getD ss k 0 ≤ f j) × (f j ≤ getD ss k 0 + 3)) (omega arith) (near (suc k) (omega arith)))
-      (λ k q. subst (λ (j : ℕ). phaseByte a j ≡ phaseOf (f j)) (omega arith) (phases (suc k) (omega arith))) in
-      ap₂ (λ (b : Bool) (r : Option (List ℕ)). brought b (forward s (phaseByte a n)) r) may rest ∙ ap (λ (x : ℕ). some (x ∷ countsFrom f (suc n) (length ss))) reach
+      (λ k q. subst (λ (j : ℕ). (getD ss k 0 ≤ count j) × (count j ≤ getD ss k 0 + 3)) (omega arith) (near (suc k) (omega arith)))
+      (λ k q. subst (λ (j : ℕ). phaseByte a j ≡ phaseOf (count j)) (omega arith) (phases (suc k) (omega arith))) in
+      ap₂ (λ (b : Bool) (r : Option (List ℕ)). brought b (forward s (phaseByte a n)) r) may rest
+      ∙ ap (λ (x : ℕ). some (x ∷ countsFrom count (suc n) (length ss))) reach
 
 -- ---- sums slot by slot
 
@@ -76,33 +88,41 @@ adds-none : (g : ℕ → ℕ) (s sum : ℕ) → sum ≡ sum + total (countsFrom 
 unfolding total countsFrom
 adds-none g s sum = sym (add-zero sum)
 
-adds-step : (g : ℕ → ℕ) (s n sum t told : ℕ) → t ≡ sum + g s → told ≡ t + total (countsFrom g (suc s) n) → told ≡ sum + total (countsFrom g s (suc n))
+adds-step : (g : ℕ → ℕ) (s n sum t told : ℕ) → t ≡ sum + g s → told ≡ t + total (countsFrom g (suc s) n)
+    → told ≡ sum + total (countsFrom g s (suc n))
 unfolding total countsFrom
 adds-step g s n sum t told e q = omega (arith, e, q)
 
 -- ---- blocks
 
-module _ (keys : List ℕ) (h : ℕ) (f : ℕ → ℕ) (a : List ℕ) (m : Durable keys h f a) where
-  abbrev block : ℕ → List ℕ
-  block p = cellContent a (cellOf h (node 0 p))
+module _ {S : Setting} {T : Tree} {a : List ℕ} (m : Durable S T a) where
+  open Setting S using (keys, h, high)
+  open Tree T using (count)
 
-  forwarded : (p : ℕ) → p < pages h → forwardFrom a (64 * p) (minors (block p)) ≡ some (countsFrom f (64 * p) 64)
+  abbrev block : ℕ → List ℕ
+  block p = nodeIn S a 0 p
+
+  forwarded : (p : ℕ) → p < pages h → forwardFrom a (64 * p) (minors (block p)) ≡ some (countsFrom count (64 * p) 64)
   unfolding lines
   forwarded p q =
       let size = length-minors (block p) in
-      forward-counts a f (m .small) (64 * p) (minors (block p))
+      forward-counts a (m .small) (64 * p) (minors (block p))
       (λ k r. (m .behind p k q (omega arith), omega (arith, m .near p k q (omega arith)))) (λ k r. m .phases (64 * p + k) (omega arith))
-      ∙ ap (λ (n : ℕ). some (countsFrom f (64 * p) n)) size
+      ∙ ap (λ (n : ℕ). some (countsFrom count (64 * p) n)) size
+
+  -- what the block of a page adds to the sum brought forward
+  unfoldable pub pageSum : ℕ → ℕ
+  pageSum p = total (countsFrom count (64 * p) 64) - total (minors (block p))
 
   block-built : (c : List ℕ) (sum s p : ℕ) → p < pages h
-      → rebuildBlock h a c sum s p ≡ rebuilt (withSlot c s (suc p) 1 (freshNode keys f 0 p)) (sum + (total (countsFrom f (64 * p) 64) - total (minors (block p))))
-  unfolding rebuildBlock freshNode
+      → rebuildBlock h a c sum s p ≡ rebuilt (withSlot c s (suc p) 1 (treeNode S T 0 p)) (sum + pageSum p)
+  unfolding rebuildBlock freshNode pageSum
   block-built c sum s p q =
       ap (λ (r : Option (List ℕ)). elim r as (λ z. Rebuilt) [
         | none ↦ damaged
         | some ms ↦ rebuilt (withSlot c s (suc p) 1 (counterBlock (major (block p)) ms)) (sum + (total ms - total (minors (block p))))
       ]) (forwarded p q)
-      ∙ ap (λ (k : ℕ). rebuilt (withSlot c s (suc p) 1 (counterBlock k (countsFrom f (64 * p) 64))) (sum + (total (countsFrom f (64 * p) 64) - total (minors (block p))))) (m .majors p q)
+      ∙ ap (λ (k : ℕ). rebuilt (withSlot c s (suc p) 1 (counterBlock k (countsFrom count (64 * p) 64))) (sum + pageSum p)) (m .majors p q)
 
   -- ---- the cache, slot by slot
 
@@ -110,7 +130,7 @@ module _ (keys : List ℕ) (h : ℕ) (f : ℕ → ℕ) (a : List ℕ) (m : Durab
   pub record Upto (s : ℕ) (c : List ℕ) : Type 0 where
     pub sized : length c ≡ cacheLength h
     pub listed : (t : ℕ) → t < s → t < slots h → owner c t ≡ shadowOwner h a t
-    pub fresh : (t i : ℕ) → t < s → t < slots h → shadowOwner h a t ≡ suc i → content c t ≡ freshNode keys f (levelOf t) i
+    pub fresh : (t i : ℕ) → t < s → t < slots h → shadowOwner h a t ≡ suc i → content c t ≡ treeNode S T (levelOf t) i
     pub rest : (t : ℕ) → s ≤ t → t < slots h → owner c t ≡ 0
     pub full : (t i : ℕ) → t < slots h → owner c t ≡ suc i → dirty c t ≡ 1
     pub bare : (t : ℕ) → t < slots h → owner c t ≡ 0 → dirty c t ≡ 0
@@ -142,7 +162,8 @@ module _ (keys : List ℕ) (h : ℕ) (f : ℕ → ℕ) (a : List ℕ) (m : Durab
       own t p q (inl z) = u .rest t (omega arith) q ∙ sym (subst (λ (k : ℕ). shadowOwner h a k ≡ 0) (sym z) e)
       own t p q (inr z) = u .listed t (omega (arith, z)) q
 
-      made : (t i : ℕ) → t < suc s → t < slots h → shadowOwner h a t ≡ suc i → (t ≡ s) ⊎ (t ≡ s → ⊥) → content c t ≡ freshNode keys f (levelOf t) i
+      made : (t i : ℕ) → t < suc s → t < slots h → shadowOwner h a t ≡ suc i → (t ≡ s) ⊎ (t ≡ s → ⊥)
+          → content c t ≡ treeNode S T (levelOf t) i
       made t i p q o (inl z) = absurd (omega (arith, o, subst (λ (k : ℕ). shadowOwner h a k ≡ 0) (sym z) e))
       made t i p q o (inr z) = u .fresh t i (omega (arith, z)) q o
 
@@ -151,9 +172,10 @@ module _ (keys : List ℕ) (h : ℕ) (f : ℕ → ℕ) (a : List ℕ) (m : Durab
   listed-node s i within e = belongs-node h s i (m .owners .belong s i within e)
 
   -- a listed slot is filled with its node of the fresh tree
-  module _ (high : h ≤ 3) (s i : ℕ) (c b : List ℕ) (within : s < slots h) (e : shadowOwner h a s ≡ suc i) (same : b ≡ freshNode keys f (levelOf s) i) (u : Upto s c) where
+  module _ (s i : ℕ) (c b : List ℕ) (within : s < slots h) (e : shadowOwner h a s ≡ suc i) (same : b ≡ treeNode S T (levelOf s) i)
+      (u : Upto s c) where
     size : length b ≡ 64
-    size = ap length same ∙ fresh-length keys f (levelOf s) i
+    size = ap length same ∙ tree-length S T (levelOf s) i
 
     word : suc i < 2 ^ 64
     word = omega (arith, listed-node s i within e .0, nodes-small {h = h} (levelOf s) refl high)
@@ -174,11 +196,12 @@ module _ (keys : List ℕ) (h : ℕ) (f : ℕ → ℕ) (a : List ℕ) (m : Durab
     own t p q (inl z) = subst (λ (k : ℕ). owner next k ≡ shadowOwner h a k) (sym z) (own-same ∙ sym e)
     own t p q (inr z) = own-other t z ∙ u .listed t (omega (arith, z)) q
 
-    made : (t j : ℕ) → t < suc s → t < slots h → shadowOwner h a t ≡ suc j → (t ≡ s) ⊎ (t ≡ s → ⊥) → content next t ≡ freshNode keys f (levelOf t) j
+    made : (t j : ℕ) → t < suc s → t < slots h → shadowOwner h a t ≡ suc j → (t ≡ s) ⊎ (t ≡ s → ⊥)
+        → content next t ≡ treeNode S T (levelOf t) j
     made t j p q o (inl z) =
         let index : i ≡ j = omega (arith, e, subst (λ (k : ℕ). shadowOwner h a k ≡ suc j) z o) in
-        subst (λ (k : ℕ). content next k ≡ freshNode keys f (levelOf k) j) (sym z)
-        (content-same h c (u .sized) s within (suc i) 1 b size ∙ same ∙ ap (freshNode keys f (levelOf s)) index)
+        subst (λ (k : ℕ). content next k ≡ treeNode S T (levelOf k) j) (sym z)
+        (content-same h c (u .sized) s within (suc i) 1 b size ∙ same ∙ ap (treeNode S T (levelOf s)) index)
     made t j p q o (inr z) = content-other h c (u .sized) s within (suc i) 1 b size t z ∙ u .fresh t j (omega (arith, z)) q o
 
     flag : (t j : ℕ) → t < slots h → owner next t ≡ suc j → (t ≡ s) ⊎ (t ≡ s → ⊥) → dirty next t ≡ 1
@@ -203,49 +226,50 @@ module _ (keys : List ℕ) (h : ℕ) (f : ℕ → ℕ) (a : List ℕ) (m : Durab
   -- ---- the tree
 
   -- a node whose slot is rebuilt, or was never listed, is the fresh tree's
-  current-fresh : (s : ℕ) (c : List ℕ) → Upto s c → (l i : ℕ) → l ≤ h → i < nodes h l → slotOf l i < s → current h a c l i ≡ freshNode keys f l i
+  current-fresh : (s : ℕ) (c : List ℕ) → Upto s c → (l i : ℕ) → l ≤ h → i < nodes h l → slotOf l i < s
+      → current h a c l i ≡ treeNode S T l i
   current-fresh s c u l i low node-in before = go (holds c l i) refl
     where
       within : slotOf l i < slots h
       within = slot-within h l i low
 
-      go : (b : Bool) → holds c l i ≡ b → current h a c l i ≡ freshNode keys f l i
+      go : (b : Bool) → holds c l i ≡ b → current h a c l i ≡ treeNode S T l i
       go true e =
           current-cached h a c l i e
           ∙ u .fresh (slotOf l i) i before within (sym (u .listed (slotOf l i) before within) ∙ holds-owner c l i e)
-          ∙ ap (λ (k : ℕ). freshNode keys f k i) (level-slot l i)
+          ∙ ap (λ (k : ℕ). treeNode S T k i) (level-slot l i)
       go false e =
           current-missing h a c l i e
           ∙ m .stored l i low node-in (λ o. false≢true (sym e ∙ owner-holds c l i (u .listed (slotOf l i) before within ∙ o)))
 
   -- a listed node, from the tags of its children
   node-built : (s i : ℕ) (c : List ℕ) → 4 ≤ s → s < slots h → shadowOwner h a s ≡ suc i → Upto s c
-      → childTags keys (levelOf s - 1) (current h a c (levelOf s - 1)) i ≡ freshNode keys f (levelOf s) i
+      → childTags keys (levelOf s - 1) (current h a c (levelOf s - 1)) i ≡ treeNode S T (levelOf s) i
   unfolding freshNode slots
-  node-built s i c high within e u =
+  node-built s i c far within e u =
       ap (λ (k : ℕ). childTags keys (k - 1) (current h a c (k - 1)) i) level
-      ∙ above ((s - 4) / 2) (omega (arith, level, level-within h s within)) (omega arith) (subst (λ (k : ℕ). i < nodes h k) level (listed-node s i within e .0))
-      ∙ sym (ap (λ (k : ℕ). freshNode keys f k i) level)
+      ∙ above ((s - 4) / 2) (omega (arith, level, level-within h s within)) (omega arith)
+      (subst (λ (k : ℕ). i < nodes h k) level (listed-node s i within e .0))
+      ∙ sym (ap (λ (k : ℕ). treeNode S T k i) level)
     where
       level : levelOf s ≡ suc ((s - 4) / 2)
-      level = level-high s high
+      level = level-high s far
 
-      above : (k : ℕ) → suc k ≤ h → 4 + 2 * k ≤ s → i < nodes h (suc k) → childTags keys (suc k - 1) (current h a c (suc k - 1)) i ≡ freshNode keys f (suc k) i
+      above : (k : ℕ) → suc k ≤ h → 4 + 2 * k ≤ s → i < nodes h (suc k)
+          → childTags keys (suc k - 1) (current h a c (suc k - 1)) i ≡ treeNode S T (suc k) i
       above k low far inside =
           let one : suc k - 1 ≡ k = omega arith in
           ap (λ (j : ℕ). childTags keys j (current h a c j) i) one
-          ∙ tags-agree keys k (current h a c k) (freshNode keys f k) (8 * i) 8
-          (λ j p q. current-fresh s c u k j (omega arith) (omega (arith, nodes-below h k low)) (omega (arith, slot-within k k j (le-refl k))))
+          ∙ tags-agree keys k (current h a c k) (treeNode S T k) (8 * i) 8
+          (λ j p q. current-fresh s c u k j (omega arith) (omega (arith, nodes-below h k low))
+          (omega (arith, slot-within k k j (le-refl k))))
 
   -- ---- all slots
 
   abbrev listing : ℕ → ℕ → List ℕ
   listing s n = from (shadowOwner h a) s n
 
-  -- what the block of a page, and the owner of a slot, adds to the sum brought forward
-  unfoldable pub pageSum : ℕ → ℕ
-  pageSum p = total (countsFrom f (64 * p) 64) - total (minors (cellContent a (cellOf h (node 0 p))))
-
+  -- what the owner of a slot adds to the sum
   unfoldable pub added : ℕ → ℕ
   added zero = 0
   added (suc p) = pageSum p
@@ -254,8 +278,8 @@ module _ (keys : List ℕ) (h : ℕ) (f : ℕ → ℕ) (a : List ℕ) (m : Durab
   unfolding added
   owner-none o sum e = sym (ap (λ (k : ℕ). sum + added k) e ∙ add-zero sum)
 
-  owner-some : (o p sum : ℕ) → o ≡ suc p → sum + (total (countsFrom f (64 * p) 64) - total (minors (block p))) ≡ sum + added o
-  unfolding added pageSum
+  owner-some : (o p sum : ℕ) → o ≡ suc p → sum + pageSum p ≡ sum + added o
+  unfolding added
   owner-some o p sum e = sym (ap (λ (k : ℕ). sum + added k) e)
 
   -- counter slots from s on
@@ -266,32 +290,47 @@ module _ (keys : List ℕ) (h : ℕ) (f : ℕ → ℕ) (a : List ℕ) (m : Durab
     pub upto : Upto (s + n) cache
     pub adds : told ≡ sum + total (countsFrom (λ t. added (shadowOwner h a t)) s n)
 
-  blocks-from : h ≤ 3 → (n s : ℕ) (c : List ℕ) (sum : ℕ) → s + n ≤ 4 → Upto s c → BlocksFrom n s c sum
+  blocks-from : (n s : ℕ) (c : List ℕ) (sum : ℕ) → s + n ≤ 4 → Upto s c → BlocksFrom n s c sum
   unfolding rebuildBlocks rebuildSlot from slots
-  blocks-from high zero s c sum p u = record { cache = c; told = sum; same = refl; upto = subst (λ (k : ℕ). Upto k c) (omega arith) u; adds = adds-none (λ t. added (shadowOwner h a t)) s sum }
-  blocks-from high (suc n) s c sum p u = go (λ d t v. blocks-from high n (suc s) d t (omega arith) v) (shadowOwner h a s) refl
+  blocks-from zero s c sum p u =
+      record {
+        cache = c;
+        told = sum;
+        same = refl;
+        upto = subst (λ (k : ℕ). Upto k c) (omega arith) u;
+        adds = adds-none (λ t. added (shadowOwner h a t)) s sum;
+      }
+  blocks-from (suc n) s c sum p u = go (λ d t v. blocks-from n (suc s) d t (omega arith) v) (shadowOwner h a s) refl
     where
       after : Rebuilt → Rebuilt
       after r = elim r as (λ z. Rebuilt) [ damaged ↦ damaged | rebuilt d t ↦ rebuildBlocks h a (suc s) (listing (suc s) n) d t ]
 
-      step : {d : List ℕ} {t : ℕ} → rebuildSlot h a c sum s (shadowOwner h a s) ≡ rebuilt d t → t ≡ sum + added (shadowOwner h a s) → BlocksFrom n (suc s) d t → BlocksFrom (suc n) s c sum
+      step : {d : List ℕ} {t : ℕ} → rebuildSlot h a c sum s (shadowOwner h a s) ≡ rebuilt d t → t ≡ sum + added (shadowOwner h a s)
+          → BlocksFrom n (suc s) d t → BlocksFrom (suc n) s c sum
       step e w r =
-          record { cache = r .cache; told = r .told; same = ap after e ∙ r .same; upto = subst (λ (k : ℕ). Upto k (r .cache)) (omega arith) (r .upto); adds = adds-step (λ t. added (shadowOwner h a t)) s n sum _ (r .told) w (r .adds) }
+          record {
+            cache = r .cache;
+            told = r .told;
+            same = ap after e ∙ r .same;
+            upto = subst (λ (k : ℕ). Upto k (r .cache)) (omega arith) (r .upto);
+            adds = adds-step (λ t. added (shadowOwner h a t)) s n sum _ (r .told) w (r .adds);
+          }
 
       go : ((d : List ℕ) (t : ℕ) → Upto (suc s) d → BlocksFrom n (suc s) d t) → (o : ℕ) → shadowOwner h a s ≡ o → BlocksFrom (suc n) s c sum
       go others zero e = step (ap (rebuildSlot h a c sum s) e) (owner-none (shadowOwner h a s) sum e) (others c sum (skipped s c e u))
       go others (suc i) e =
           let level : levelOf s ≡ 0 = level-low s (omega arith) in
-          let page : i < pages h = omega (arith, subst (λ (k : ℕ). i < nodes h k) level (listed-node s i (omega arith) e .0), nodes-bottom h) in
+          let index : i < nodes h 0 = subst (λ (k : ℕ). i < nodes h k) level (listed-node s i (omega arith) e .0) in
+          let page : i < pages h = omega (arith, index, nodes-bottom h) in
           step (ap (rebuildSlot h a c sum s) e ∙ block-built c sum s i page) (owner-some (shadowOwner h a s) i sum e)
-          (others (withSlot c s (suc i) 1 (freshNode keys f 0 i)) _
-          (filled high s i c (freshNode keys f 0 i) (omega arith) e (ap (λ (k : ℕ). freshNode keys f k i) (sym level)) u))
+          (others (withSlot c s (suc i) 1 (treeNode S T 0 i)) _
+          (filled s i c (treeNode S T 0 i) (omega arith) e (ap (λ (k : ℕ). treeNode S T k i) (sym level)) u))
 
   -- node slots from s on
-  nodes-from : h ≤ 3 → (n s : ℕ) (c : List ℕ) → 4 ≤ s → s + n ≤ slots h → Upto s c → Upto (s + n) (rebuildNodes h keys a s (listing s n) c)
+  nodes-from : (n s : ℕ) (c : List ℕ) → 4 ≤ s → s + n ≤ slots h → Upto s c → Upto (s + n) (rebuildNodes h keys a s (listing s n) c)
   unfolding rebuildNodes rebuildNode from
-  nodes-from high zero s c far p u = subst (λ (k : ℕ). Upto k c) (omega arith) u
-  nodes-from high (suc n) s c far p u = go (λ d v. nodes-from high n (suc s) d (omega arith) (omega arith) v) (shadowOwner h a s) refl
+  nodes-from zero s c far p u = subst (λ (k : ℕ). Upto k c) (omega arith) u
+  nodes-from (suc n) s c far p u = go (λ d v. nodes-from n (suc s) d (omega arith) (omega arith) v) (shadowOwner h a s) refl
     where
       Others : Type 0
       Others = (d : List ℕ) → Upto (suc s) d → Upto (suc s + n) (rebuildNodes h keys a (suc s) (listing (suc s) n) d)
@@ -302,77 +341,85 @@ module _ (keys : List ℕ) (h : ℕ) (f : ℕ → ℕ) (a : List ℕ) (m : Durab
           subst (λ (x : List ℕ). Upto (s + suc n) (rebuildNodes h keys a (suc s) (listing (suc s) n) x)) (sym e)
           (subst (λ (k : ℕ). Upto k (rebuildNodes h keys a (suc s) (listing (suc s) n) d)) (omega arith) (others d v))
 
-      go : Others → (o : ℕ) → shadowOwner h a s ≡ o → Upto (s + suc n) (rebuildNodes h keys a (suc s) (listing (suc s) n) (rebuildNode h keys a c s (shadowOwner h a s)))
+      go : Others → (o : ℕ) → shadowOwner h a s ≡ o
+          → Upto (s + suc n) (rebuildNodes h keys a (suc s) (listing (suc s) n) (rebuildNode h keys a c s (shadowOwner h a s)))
       go others zero e = step others (ap (rebuildNode h keys a c s) e) (skipped s c e u)
-      go others (suc i) e = step others (ap (rebuildNode h keys a c s) e) (filled high s i c _ (omega arith) e (node-built s i c far (omega arith) e u) u)
+      go others (suc i) e =
+          step others (ap (rebuildNode h keys a c s) e) (filled s i c _ (omega arith) e (node-built s i c far (omega arith) e u) u)
 
--- ---- the whole recovery, once the pending stores are made
-
-module _ (keys : List ℕ) (x : Module) (f : ℕ → ℕ) (high : depth (x .control) ≤ 3) (m : Durable keys (depth (x .control)) f (x .array)) (top : root (x .control) ≡ freshRoot keys f (depth (x .control))) where
-  abbrev h : ℕ
-  h = depth (x .control)
-
-  abbrev listed-owners : List ℕ
-  listed-owners = shadowOwners h (x .array)
+  -- ---- the whole cache
 
   four : slots h ≡ suc (suc (suc (suc (2 * h))))
   unfolding slots
   four = omega arith
 
-  counter-slots : take 4 listed-owners ≡ from (shadowOwner h (x .array)) 0 4
-  unfolding from
-  counter-slots = ap (λ (n : ℕ). take 4 (from (shadowOwner h (x .array)) 0 n)) four
-
-  node-slots : drop 4 listed-owners ≡ from (shadowOwner h (x .array)) 4 (2 * h)
-  unfolding from
-  node-slots = ap (λ (n : ℕ). drop 4 (from (shadowOwner h (x .array)) 0 n)) four
-
-  pub blocks : BlocksFrom keys h f (x .array) m 4 0 (emptyCache h) 0
-  blocks = blocks-from keys h f (x .array) m high 4 0 (emptyCache h) 0 (le-refl 4) (none-yet keys h f (x .array) m)
+  pub blocks : BlocksFrom 4 0 (emptyCache h) 0
+  blocks = blocks-from 4 0 (emptyCache h) 0 (le-refl 4) none-yet
 
   pub cacheAfter : List ℕ
-  cacheAfter = rebuildNodes h keys (x .array) 4 (from (shadowOwner h (x .array)) 4 (2 * h)) (blocks .cache)
+  cacheAfter = rebuildNodes h keys a 4 (listing 4 (2 * h)) (blocks .cache)
 
-  pub all-slots : Upto keys h f (x .array) m (slots h) cacheAfter
+  pub all-slots : Upto (slots h) cacheAfter
   unfolding cacheAfter
   all-slots =
-      subst (λ (k : ℕ). Upto keys h f (x .array) m k cacheAfter) (omega (arith, four))
-      (nodes-from keys h f (x .array) m high (2 * h) 4 (blocks .cache) (le-refl 4) (omega (arith, four)) (blocks .upto))
+      subst (λ (k : ℕ). Upto k cacheAfter) (omega (arith, four))
+      (nodes-from (2 * h) 4 (blocks .cache) (le-refl 4) (omega (arith, four)) (blocks .upto))
 
-  -- every block and node is the fresh tree's
-  pub tree-after : (l i : ℕ) → l ≤ h → i < nodes h l → current h (x .array) cacheAfter l i ≡ freshNode keys f l i
-  tree-after l i p q = current-fresh keys h f (x .array) m (slots h) cacheAfter all-slots l i p q (slot-within h l i p)
-
-  root-right : (k sum : ℕ) → recoverRoot keys k x sum cacheAfter ≡ record { answer = Done k sum; after = record { array = x .array; control = x .control; cache = cacheAfter } }
-  unfolding recoverRoot
-  root-right k sum =
-      ap (λ (b : Bool). cond b (record { answer = Done k sum; after = record { array = x .array; control = x .control; cache = cacheAfter } }) (refuseAfter k x 29 0))
-      (eq-eqb _ _ (ap (λ (b : List ℕ). nodeTag keys b h 0) (tree-after h 0 (le-refl h) (nodes-some h h)) ∙ sym top))
-
-  -- so recovery is done
-  pub recovered : (k : ℕ) → recoverMedia keys k x ≡ record { answer = Done k (blocks .told); after = record { array = x .array; control = x .control; cache = cacheAfter } }
-  unfolding recoverShadow recoverRebuilt cacheAfter
-  recovered k =
-      ap (recoverShadow keys k x listed-owners) (not-bad h (shadowOwner h (x .array)) (m .owners))
-      ∙ ap (recoverRebuilt keys k x listed-owners) (ap (λ (l : List ℕ). rebuildBlocks h (x .array) 0 l (emptyCache h) 0) counter-slots ∙ blocks .same)
-      ∙ ap (λ (l : List ℕ). recoverRoot keys k x (blocks .told) (rebuildNodes h keys (x .array) 4 l (blocks .cache))) node-slots
-      ∙ root-right k (blocks .told)
-
-  -- and the cache is formed
   pub formed-after : Formed h cacheAfter
   formed-after =
       record {
-        owners = record {
-          belong = λ s i p e. m .owners .belong s i p (sym (own s p) ∙ e);
-          top = λ z s p. own s p ∙ m .owners .top (sym (own (topSlot h) (slot-within h h 0 (le-refl h))) ∙ z) s p;
-        };
+        owners = owned-same (m .owners) (λ s p. all-slots .listed s p p);
         flag = λ s p. flags s p (owner cacheAfter s) refl;
         clean = all-slots .bare;
       }
     where
-      own : (s : ℕ) → s < slots h → owner cacheAfter s ≡ shadowOwner h (x .array) s
-      own s p = all-slots .listed s p p
-
       flags : (s : ℕ) → s < slots h → (o : ℕ) → owner cacheAfter s ≡ o → dirty cacheAfter s ≤ 1
       flags s p zero e = omega (arith, all-slots .bare s p e)
       flags s p (suc i) e = omega (arith, all-slots .full s i p e)
+
+-- ---- the whole recovery, once the pending stores are made
+
+module _ {S : Setting} {T : Tree} (x : Module) (deep : depth (x .control) ≡ S .h) (m : Durable S T (x .array))
+    (top : root (x .control) ≡ treeRoot S T) (k : ℕ) where
+  open Setting S using (keys, h)
+
+  abbrev a : List ℕ
+  a = x .array
+
+  abbrev c : List ℕ
+  c = cacheAfter m
+
+  abbrev os : List ℕ
+  os = shadowOwners h a
+
+  counter-slots : take 4 os ≡ from (shadowOwner h a) 0 4
+  unfolding from
+  counter-slots = ap (λ (n : ℕ). take 4 (from (shadowOwner h a) 0 n)) (four m)
+
+  node-slots : drop 4 os ≡ from (shadowOwner h a) 4 (2 * h)
+  unfolding from
+  node-slots = ap (λ (n : ℕ). drop 4 (from (shadowOwner h a) 0 n)) (four m)
+
+  abbrev done-with : ℕ → Called
+  done-with sum = record { answer = Done k sum; after = record { array = a; control = x .control; cache = c } }
+
+  -- the top is the fresh tree's, so it gives the root
+  root-right : (sum : ℕ) → recoverRoot keys k x sum c ≡ done-with sum
+  unfolding recoverRoot
+  root-right sum =
+      let top-in = slot-within h h 0 (le-refl h) in
+      ap (λ (b : Bool). cond b (done-with sum) (refuseAfter k x 29 0))
+      (eq-eqb _ _ (ap (λ (d : ℕ). tagOf S (current d a c d 0) d 0) deep
+      ∙ ap (λ (b : List ℕ). tagOf S b h 0) (current-fresh m (slots h) c (all-slots m) h 0 (le-refl h) (nodes-some h h) top-in)
+      ∙ sym top))
+
+  -- so recovery is done
+  pub recovered : recoverMedia keys k x ≡ done-with (blocks m .told)
+  unfolding recoverShadow recoverRebuilt cacheAfter
+  recovered =
+      ap (λ (d : ℕ). recoverShadow keys k x (shadowOwners d a) (badSlot d (shadowOwners d a))) deep
+      ∙ ap (recoverShadow keys k x os) (not-bad h (shadowOwner h a) (m .owners))
+      ∙ ap (recoverRebuilt keys k x os)
+      (ap₂ (λ (d : ℕ) (l : List ℕ). rebuildBlocks d a 0 l (emptyCache d) 0) deep counter-slots ∙ blocks m .same)
+      ∙ ap₂ (λ (d : ℕ) (l : List ℕ). recoverRoot keys k x (blocks m .told) (rebuildNodes d keys a 4 l (blocks m .cache))) deep node-slots
+      ∙ root-right (blocks m .told)

@@ -15,14 +15,15 @@ use Rattle.cache.specs.declared.Found.{Found}
 use Rattle.cache.specs.declared.Found.the-variants.{Nothing, At}
 use Rattle.cache.specs.Cache.{shadowOwners, badSlot, emptyCache, current}
 use Rattle.tag.specs.Tag.{nodeTag}
-use Rattle.journal.specs.Journal.{Store, Media, storeAll, batchStores, pendingStores, made, isCut}
+use Rattle.journal.specs.Journal.{Store, Media, storeAll, batchStores, pendingStores, isCut}
 use Rattle.journal.proofs.Laws.{store-none}
 use Rattle.calls.specs.Path.{Loaded, loaded, differs}
 use Rattle.calls.specs.Call.{Module, Called, mediaOf, withMedia, storing, refuse, pathOf, accessRefusal}
 use Rattle.calls.specs.Read.{answered, refusedRead, lineMinor, sideOk, lineText, readLoaded, readPath, readJudged, read}
 use Rattle.calls.specs.Write.{writeStores, writtenCache, writeLoaded, writePath, writeJudged, write}
-use Rattle.calls.specs.Recovery.{refuseAfter, Rebuilt, rebuilt, damaged, rebuildBlocks, rebuildNodes, recoveryRefusal, recoverRoot, recoverRebuilt, recoverShadow, recoverMedia, recoverJudged, recover}
-use Rattle.history_laws.proofs.Outcome.{no-elements, cases}
+use Rattle.calls.specs.Recovery.{refuseAfter, Rebuilt, rebuilt, damaged, rebuildBlocks, rebuildNodes, recoveryRefusal}
+use Rattle.calls.specs.Recovery.{recoverRoot, recoverRebuilt, recoverShadow, recoverMedia, recoverJudged, recover}
+use Rattle.history_laws.proofs.Outcome.{no-elements, madeStores, cutAmong, cases}
 
 -- ---- answers apart
 
@@ -44,7 +45,8 @@ abbrev pub Same : Module → Called → Type 0
 Same m out = (n a b : ℕ) → out .answer ≡ Refused n 0 a b → out .after ≡ m
 
 module _ (m : Module) where
-  storing-same : (allowance : ℕ) (xs : List Store) (answer : Answer) (c : List ℕ) → ((n a b : ℕ) → answer ≡ Refused n 0 a b → ⊥) → Same m (storing allowance m xs answer c)
+  storing-same : (allowance : ℕ) (xs : List Store) (answer : Answer) (c : List ℕ) → ((n a b : ℕ) → answer ≡ Refused n 0 a b → ⊥)
+      → Same m (storing allowance m xs answer c)
   storing-same allowance xs answer c nay =
       cases (Same m) allowance m xs answer c (λ p n a b e. absurd (cut-not e)) (λ p n a b e. absurd (nay n a b e))
 
@@ -53,11 +55,14 @@ module _ (m : Module) where
     unfolding readLoaded answered
     read-loaded c x = go (eqb (lineMinor c line) 0) (sideOk keys (m .array) c line)
       where
-        go : (s t : Bool) → Same m ((cond s (answered allowance m (batchStores x (root (m .control))) (Blank (length (batchStores x (root (m .control))))) c (replicate 64 0) out)
-            (cond t (answered allowance m (batchStores x (root (m .control))) (Done (length (batchStores x (root (m .control)))) 0) c (lineText keys (m .array) c line) out)
+        xs : List Store
+        xs = batchStores x (root (m .control))
+
+        go : (s t : Bool) → Same m ((cond s (answered allowance m xs (Blank (length xs)) c (replicate 64 0) out)
+            (cond t (answered allowance m xs (Done (length xs) 0) c (lineText keys (m .array) c line) out)
             (refusedRead (refuse m 25 line 0) out))) .called)
-        go true t = storing-same allowance (batchStores x (root (m .control))) (Blank (length (batchStores x (root (m .control))))) c (λ n a b e. blank-not e)
-        go false true = storing-same allowance (batchStores x (root (m .control))) (Done (length (batchStores x (root (m .control)))) 0) c (λ n a b e. done-not e)
+        go true t = storing-same allowance xs (Blank (length xs)) c (λ n a b e. blank-not e)
+        go false true = storing-same allowance xs (Done (length xs) 0) c (λ n a b e. done-not e)
         go false false = λ n a b e. refl
 
     read-path : (r : Loaded) → Same m (readPath keys line allowance m out r .called)
@@ -78,13 +83,15 @@ module _ (m : Module) where
     unfolding writeLoaded
     write-loaded c x = go (eqb (lineMinor c line) 127)
       where
-        go : (s : Bool) → Same m (cond s (refuse m 26 0 0)
-            (storing allowance m (writeStores (depth (m .control)) keys line text c x) (Done (length (writeStores (depth (m .control)) keys line text c x)) 0)
-            (writtenCache (depth (m .control)) keys line c)))
+        xs : List Store
+        xs = writeStores (depth (m .control)) keys line text c x
+
+        d : List ℕ
+        d = writtenCache (depth (m .control)) keys line c
+
+        go : (s : Bool) → Same m (cond s (refuse m 26 0 0) (storing allowance m xs (Done (length xs) 0) d))
         go true = λ n a b e. refl
-        go false =
-            storing-same allowance (writeStores (depth (m .control)) keys line text c x) (Done (length (writeStores (depth (m .control)) keys line text c x)) 0)
-            (writtenCache (depth (m .control)) keys line c) (λ n a b e. done-not e)
+        go false = storing-same allowance xs (Done (length xs) 0) d (λ n a b e. done-not e)
 
     write-path : (r : Loaded) → Same m (writePath keys line text allowance m r)
     unfolding writePath
@@ -110,42 +117,50 @@ unfolding storesOf
 left-refused k x n a = record { told = λ i j c d e. sym (ap storesOf e); same = λ i j c d e. refl }
 
 module _ (keys : List ℕ) (k : ℕ) (x : Module) where
+  abbrev h : ℕ
+  h = depth (x .control)
+
   left-root : (sum : ℕ) (c : List ℕ) → Left k x (recoverRoot keys k x sum c)
   unfolding recoverRoot
-  left-root sum c = go (eqb (nodeTag keys (current (depth (x .control)) (x .array) c (depth (x .control)) 0) (depth (x .control)) 0) (root (x .control)))
+  left-root sum c = go (eqb (nodeTag keys (current h (x .array) c h 0) h 0) (root (x .control)))
     where
-      go : (s : Bool) → Left k x (cond s (record { answer = Done k sum; after = record { array = x .array; control = x .control; cache = c } }) (refuseAfter k x 29 0))
+      done : Called
+      done = record { answer = Done k sum; after = record { array = x .array; control = x .control; cache = c } }
+
+      go : (s : Bool) → Left k x (cond s done (refuseAfter k x 29 0))
       go true = record { told = λ i j p q e. absurd (done-not e); same = λ i j p q e. absurd (done-not e) }
       go false = left-refused k x 29 0
 
   left-rebuilt : (os : List ℕ) (r : Rebuilt) → Left k x (recoverRebuilt keys k x os r)
   unfolding recoverRebuilt
   left-rebuilt os damaged = left-refused k x 28 0
-  left-rebuilt os (rebuilt d sum) = left-root sum (rebuildNodes (depth (x .control)) keys (x .array) 4 (drop 4 os) d)
+  left-rebuilt os (rebuilt d sum) = left-root sum (rebuildNodes h keys (x .array) 4 (drop 4 os) d)
 
   left-shadow : (os : List ℕ) (r : Found) → Left k x (recoverShadow keys k x os r)
   unfolding recoverShadow
   left-shadow os (At s) = left-refused k x 27 s
-  left-shadow os Nothing = left-rebuilt os (rebuildBlocks (depth (x .control)) (x .array) 0 (take 4 os) (emptyCache (depth (x .control))) 0)
+  left-shadow os Nothing = left-rebuilt os (rebuildBlocks h (x .array) 0 (take 4 os) (emptyCache h) 0)
 
   left-media : Left k x (recoverMedia keys k x)
-  left-media = left-shadow (shadowOwners (depth (x .control)) (x .array)) (badSlot (depth (x .control)) (shadowOwners (depth (x .control)) (x .array)))
+  left-media = left-shadow (shadowOwners h (x .array)) (badSlot h (shadowOwners h (x .array)))
 
 pub recover-same : (keys : List ℕ) (allowance : ℕ) (m : Module) → Same m (recover keys allowance m)
 unfolding recoverJudged
 recover-same keys allowance m = go (recoveryRefusal keys m)
   where
-    ended : (s : Bool) → Same m (cond s (record { answer = Cut (length (made allowance (pendingStores (m .control)))); after = withMedia (storeAll (mediaOf m) (made allowance (pendingStores (m .control)))) (m .cache) })
-        (recoverMedia keys (length (pendingStores (m .control))) (withMedia (storeAll (mediaOf m) (made allowance (pendingStores (m .control)))) (m .cache))))
+    xs : List Store
+    xs = pendingStores (m .control)
+
+    ended : (s : Bool) → Same m (cond s (cutAmong allowance m xs) (recoverMedia keys (length xs) (madeStores allowance m xs)))
     ended true = λ n a b e. absurd (cut-not e)
     ended false = λ n a b e.
-        let l = left-media keys (length (pendingStores (m .control))) (withMedia (storeAll (mediaOf m) (made allowance (pendingStores (m .control)))) (m .cache)) in
-        let none-left : pendingStores (m .control) ≡ [] = no-elements (pendingStores (m .control)) (omega (arith, l .told n 0 a b e)) in
+        let l = left-media keys (length xs) (madeStores allowance m xs) in
+        let none-left : xs ≡ [] = no-elements xs (omega (arith, l .told n 0 a b e)) in
         l .same n 0 a b e
-        ∙ ap (λ (xs : List Store). withMedia (storeAll (mediaOf m) (take allowance xs)) (m .cache)) none-left
-        ∙ ap (λ (xs : List Store). withMedia (storeAll (mediaOf m) xs) (m .cache)) (take-nil allowance)
+        ∙ ap (madeStores allowance m) none-left
+        ∙ ap (λ (ys : List Store). withMedia (storeAll (mediaOf m) ys) (m .cache)) (take-nil allowance)
         ∙ ap (λ (d : Media). withMedia d (m .cache)) (store-none (mediaOf m))
 
     go : (k : ℕ) → Same m (recoverJudged k keys allowance m)
-    go zero = ended (isCut allowance (pendingStores (m .control)))
+    go zero = ended (isCut allowance xs)
     go (suc k) = λ n a b e. refl

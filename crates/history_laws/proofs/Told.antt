@@ -1,5 +1,5 @@
--- The sum that recovery tells: the total of what each line's counter is above its minor in the array. A page that the shadow does not list adds
--- nothing, and a listed page stands in one slot. Assumes nothing.
+-- The sum that recovery tells: the total of what each line's counter is above its minor in the array. A page that the shadow does not list
+-- adds nothing, and a listed page stands in one slot. Assumes nothing.
 use mathlib.Core.Path.{_≡_, refl, sym, ap, ap₂, _∙_, subst}
 use mathlib.Core.Logic.{_⊎_, inl, inr}
 use mathlib.Core.Bool.{Bool, cond}
@@ -12,16 +12,16 @@ use borrow.Author.Tests.{eq-eqb, ne-eqb}
 use lib.Dec.{eqb, lit<}
 use lib.Seq.{ext-getD}
 use Rattle.words.proofs.Order.{eq-or-not}
-use Rattle.memory_map.specs.Map.{pageOf, placeOf, pages, lines, nodes, slots, cellOf}
-use Rattle.memory_map.specs.Map.Item.{node}
+use Rattle.memory_map.specs.Map.{pageOf, placeOf, pages, lines, nodes, slots}
 use Rattle.memory_map.proofs.Laws.{nodes-bottom, page-inside}
 use Rattle.slot_map.specs.Slots.{slotOf, levelOf}
 use Rattle.slot_map.proofs.Laws.{level-low, belongs-node}
 use Rattle.counter.specs.Counter.{minors, minor}
 use Rattle.counter.proofs.Laws.{length-minors}
-use Rattle.cache.specs.Cache.{cellContent, shadowOwner}
+use Rattle.cache.specs.Cache.{shadowOwner}
 use Rattle.calls.specs.Recovery.{total}
 use Rattle.calls.specs.Format.{countsFrom}
+use Rattle.history_laws.proofs.Setting.{Setting, Tree, nodeIn}
 use Rattle.history_laws.proofs.Tree.{length-counts, counts-agree, counts-at, fresh-minors}
 use Rattle.history_laws.proofs.Recovered.{Durable, pageSum, added}
 
@@ -50,7 +50,8 @@ module _ (f : ℕ → ℕ) where
   sum-single q s zero p r e = absurd (omega arith)
   sum-single q s (suc k) p r e = go (λ u w. sum-single q (suc s) k u w (λ x i j z. e x (omega arith) (omega arith) z)) (eq-or-not s q)
     where
-      go : (suc s ≤ q → q < suc s + k → total (countsFrom f (suc s) k) ≡ f q) → (s ≡ q) ⊎ (s ≡ q → ⊥) → f s + total (countsFrom f (suc s) k) ≡ f q
+      go : (suc s ≤ q → q < suc s + k → total (countsFrom f (suc s) k) ≡ f q) → (s ≡ q) ⊎ (s ≡ q → ⊥)
+          → f s + total (countsFrom f (suc s) k) ≡ f q
       go rest (inl z) = omega (arith, ap f z, sum-zero (suc s) k (λ x u w. e x (omega arith) (omega arith) (λ y. omega arith)))
       go rest (inr z) = omega (arith, e s (omega arith) (omega arith) z, rest (omega (arith, z)) (omega arith))
 
@@ -67,24 +68,27 @@ split4 (suc (suc zero)) x p = omega arith
 split4 (suc (suc (suc zero))) x p = omega arith
 split4 (suc (suc (suc (suc r)))) x p = absurd (omega arith)
 
-module _ (keys : List ℕ) (h : ℕ) (high : h ≤ 3) (f : ℕ → ℕ) (a : List ℕ) (m : Durable keys h f a) where
+module _ {S : Setting} {T : Tree} {a : List ℕ} (m : Durable S T a) where
+  open Setting S using (h)
+  open Tree T using (count)
+
   abbrev block : ℕ → List ℕ
-  block p = cellContent a (cellOf h (node 0 p))
+  block p = nodeIn S a 0 p
 
   -- a line's minor in the array, and what its count is above it
   abbrev pub stored : ℕ → ℕ
   stored n = minor (block (pageOf n)) (placeOf n)
 
   abbrev above : ℕ → ℕ
-  above n = f n - stored n
+  above n = count n - stored n
 
   abbrev D : ℕ → ℕ
-  D p = pageSum keys h f a m p
+  D p = pageSum m p
 
-  behind : (n : ℕ) → n < lines h → stored n ≤ f n
+  behind : (n : ℕ) → n < lines h → stored n ≤ count n
   behind n q =
       let place : 64 * pageOf n + placeOf n ≡ n = omega arith in
-      subst (λ (x : ℕ). stored n ≤ f x) place (m .behind (pageOf n) (placeOf n) (page-inside h n q) (omega arith))
+      subst (λ (x : ℕ). stored n ≤ count x) place (m .behind (pageOf n) (placeOf n) (page-inside h n q) (omega arith))
 
   minors-are : (p : ℕ) → minors (block p) ≡ countsFrom stored (64 * p) 64
   minors-are p =
@@ -94,7 +98,7 @@ module _ (keys : List ℕ) (h : ℕ) (high : h ≤ 3) (f : ℕ → ℕ) (a : Lis
       let place : placeOf (64 * p + i) ≡ i = omega arith in
       sym (counts-at stored (64 * p) 64 i small ∙ ap₂ (λ (x y : ℕ). minor (block x) y) page place))
 
-  differences : (s k : ℕ) → s + k ≤ lines h → total (countsFrom above s k) + total (countsFrom stored s k) ≡ total (countsFrom f s k)
+  differences : (s k : ℕ) → s + k ≤ lines h → total (countsFrom above s k) + total (countsFrom stored s k) ≡ total (countsFrom count s k)
   unfolding total countsFrom
   differences s zero p = refl
   differences s (suc k) p = omega (arith, behind s (omega arith), differences (suc s) k (omega arith))
@@ -107,7 +111,7 @@ module _ (keys : List ℕ) (h : ℕ) (high : h ≤ 3) (f : ℕ → ℕ) (a : Lis
   unfolding pageSum
   not-listed p q o =
       let fresh = m .stored 0 p zero-le (omega (arith, nodes-bottom h)) o in
-      omega (arith, ap (λ (b : List ℕ). total (minors b)) fresh ∙ ap total (fresh-minors keys f (m .small) p))
+      omega (arith, ap (λ (b : List ℕ). total (minors b)) fresh ∙ ap total (fresh-minors S (m .small) p))
 
   by-pages : (n : ℕ) → n ≤ pages h → total (countsFrom above 0 (64 * n)) ≡ total (countsFrom D 0 n)
   unfolding total countsFrom
@@ -143,13 +147,14 @@ module _ (keys : List ℕ) (h : ℕ) (high : h ≤ 3) (f : ℕ → ℕ) (a : Lis
   -- the one page that it lists
   lone : (s q : ℕ) → q < pages h → q % 4 ≡ s → shadowOwner h a s ≡ suc q → total (countsFrom (Z s) 0 (pages h)) ≡ D q
   lone s q page own e =
-      sum-single (Z s) q 0 (pages h) zero-le (omega arith) (λ x u w z. Z-none s x (omega arith) (λ y. z (omega (arith, e, y)))) ∙ Z-on s q own
+      sum-single (Z s) q 0 (pages h) zero-le (omega arith) (λ x u w z. Z-none s x (omega arith) (λ y. z (omega (arith, e, y))))
+      ∙ Z-on s q own
 
-  slot-sum : (s : ℕ) → s < 4 → total (countsFrom (Z s) 0 (pages h)) ≡ added keys h f a m (shadowOwner h a s)
+  slot-sum : (s : ℕ) → s < 4 → total (countsFrom (Z s) 0 (pages h)) ≡ added m (shadowOwner h a s)
   unfolding slotOf slots added
   slot-sum s p = go (shadowOwner h a s) refl
     where
-      go : (o : ℕ) → shadowOwner h a s ≡ o → total (countsFrom (Z s) 0 (pages h)) ≡ added keys h f a m o
+      go : (o : ℕ) → shadowOwner h a s ≡ o → total (countsFrom (Z s) 0 (pages h)) ≡ added m o
       go zero e = sum-zero (Z s) 0 (pages h) (λ x u w. Z-none s x (omega arith) (λ z. omega (arith, e, z)))
       go (suc q) e =
           let there = belongs-node h s q (m .owners .belong s q (omega arith) e) in
@@ -158,14 +163,15 @@ module _ (keys : List ℕ) (h : ℕ) (high : h ≤ 3) (f : ℕ → ℕ) (a : Lis
           let own : q % 4 ≡ s = subst (λ (k : ℕ). slotOf k q ≡ s) level (there .1) in
           lone s q page own e
 
-  all-pages : total (countsFrom D 0 (pages h)) ≡ added keys h f a m (shadowOwner h a 0)
-      + (added keys h f a m (shadowOwner h a 1) + (added keys h f a m (shadowOwner h a 2) + added keys h f a m (shadowOwner h a 3)))
+  all-pages : total (countsFrom D 0 (pages h)) ≡ added m (shadowOwner h a 0)
+      + (added m (shadowOwner h a 1) + (added m (shadowOwner h a 2) + added m (shadowOwner h a 3)))
   all-pages =
       ap total (counts-agree D (λ p. Z 0 p + (Z 1 p + (Z 2 p + Z 3 p))) 0 (pages h) (λ x u w. split4 (x % 4) (D x) (mod-lt x (lit< tt))))
       ∙ sum-add (Z 0) (λ p. Z 1 p + (Z 2 p + Z 3 p)) 0 (pages h)
       ∙ ap₂ _+_ (slot-sum 0 (lit< tt)) (sum-add (Z 1) (λ p. Z 2 p + Z 3 p) 0 (pages h)
       ∙ ap₂ _+_ (slot-sum 1 (lit< tt)) (sum-add (Z 2) (Z 3) 0 (pages h) ∙ ap₂ _+_ (slot-sum 2 (lit< tt)) (slot-sum 3 (lit< tt))))
 
-  pub told-is : (told : ℕ) → told ≡ 0 + total (countsFrom (λ s. added keys h f a m (shadowOwner h a s)) 0 4) → told ≡ total (countsFrom above 0 (lines h))
+  pub told-is : (told : ℕ) → told ≡ 0 + total (countsFrom (λ s. added m (shadowOwner h a s)) 0 4)
+      → told ≡ total (countsFrom above 0 (lines h))
   unfolding total countsFrom lines
   told-is told e = omega (arith, e, all-pages, by-pages (pages h) (le-refl (pages h)))

@@ -14,7 +14,7 @@ use Rattle.node.specs.Sized.{Sized}
 use Rattle.calls.specs.Call.{Module, buffers}
 use Rattle.call_laws.proofs.Judged.{Opened, recovery-opened, head-of}
 use Rattle.call_laws.proofs.Kept.{Bytes, array-cells}
-use Rattle.call_laws.proofs.Rebuilt.{made-module, made-depth}
+use Rattle.call_laws.proofs.Rebuilt.{made-depth}
 use Rattle.recovery.proofs.Ends.{ends-refused, ends-cut, ends-media, wanted-none, wanted-some}
 use Rattle.recovery.proofs.recover.Statement.{statement}
 use Rattle.recovery.proofs.recover.Tie as tie
@@ -120,7 +120,6 @@ all-made c =
 
 -- the depth is as it was
 same-depth : (c : tie.After-finish) → depth (c .finish .last .1 .0) ≡ depth (start (tested c .before) .args .control .now)
-unfolding made-module
 same-depth c =
     let test = tested c in
     let a = start (test .before) .args in

@@ -15,7 +15,6 @@ use Rattle.memory_map.proofs.Laws.{page-inside}
 use Rattle.journal.specs.Journal.{media}
 use Rattle.journal.proofs.Steps.{Ran}
 use Rattle.call_laws.specs.Walk.{missing, withPath}
-use Rattle.call_laws.proofs.Loading.{path-length}
 use Rattle.call_laws.proofs.Staged.{Staged, staged-inside}
 use Rattle.path.proofs.Ready.{Ready}
 use Rattle.write.specs.Parts.{lineCells, renewedTag, renewedBy}
