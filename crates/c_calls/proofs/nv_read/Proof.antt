@@ -1,18 +1,39 @@
 -- `c_calls::nv_read` meets its contract. Assumes nothing.
-use mathlib.Core.Path.{_≡_, refl, sym, ap, _∙_}
-use native.Mathlib.Omega.{arith}
+use mathlib.Core.Path.{_≡_, ap}
 use borrow.Author.Needs.{needs}
+use Rattle.calls.specs.Call.{Module, buffers}
+use Rattle.calls.specs.Read.{Reading, read}
+use Rattle.c_calls.proofs.Codes.{read-fits}
+use Rattle.c_calls.proofs.Told.{wrong-call, wrong-left, right-call, right-left, code-word}
 use Rattle.c_calls.proofs.nv_read.Statement.{statement}
 use Rattle.c_calls.proofs.nv_read.Tie as tie
 
+-- the module, and the call as it is defined
+abbrev start : tie.After-slice-known5 → tie.Start
+start c = c .before .before .before .before .before .before
+
+abbrev given : tie.After-slice-known5 → Module
+given c = let a = start c .args in buffers (a .array .now) (a .control .now) (a .cache .now)
+
+abbrev defined : tie.After-slice-known5 → Reading
+defined c = let a = start c .args in read (a .keys .now) (a .line) (a .allowance) (a .out .now) (given c)
+
 returns : tie.Need-returns
-returns c = ?
+returns c =
+    let at = c .before in
+    let all = wrong-call (start at .args .numbers .now) (c .if1 .taken) (given at) (defined at .called) in
+    (all .0, (all .1 .0, (all .1 .1, wrong-left (start at .args .numbers .now) (c .if1 .taken) (start at .args .out .now) (defined at .output))))
 
 read-requires : tie.Need-read-requires
 read-requires c κs = search needs
 
 tell-requires : tie.Need-tell-requires
-tell-requires c κs = ?
+tell-requires c κs =
+    let call = c .before .before .before .before .before .before .before .before .before in
+    let at = call .before .before .before .before .before .before in (
+      call .before .before .before .before .before .if1 .left,
+      code-word (defined at .called) (call .read .result) (buffers (call .read .last .1 .1 .0) (call .read .last .1 .0) (call .read .last .1 .1 .1 .0)) (ap (λ (x : Reading). x .called) (call .read .ensures)) (read-fits (start at .args .keys .now) (start at .args .line) (start at .args .allowance) (start at .args .out .now) (given at) .code),
+    )
 
 same-length : tie.Need-same-length
 same-length c = search needs
@@ -30,7 +51,24 @@ same-length-5 : tie.Need-same-length-5
 same-length-5 c = search needs
 
 returns-2 : tie.Need-returns-2
-returns-2 c = ?
+returns-2 c =
+    let told = c .before .before in
+    let call = told .before .before .before .before .before .before .before .before .before .before in
+    let at = call .before .before .before .before .before .before in
+    let right = call .before .before .before .before .before .if1 .left in
+    let all =
+    right-call (start at .args .numbers .now) right (given at) (defined at .called) (call .read .result)
+    (buffers (call .read .last .1 .1 .0) (call .read .last .1 .0) (call .read .last .1 .1 .1 .0)) (ap (λ (x : Reading). x .called) (call .read .ensures)) (told .tell .result) (told .tell .ensures .0) (told .tell .last .1 .0) (told .tell .ensures .1) in (
+      all .0,
+      (
+        all .1 .0,
+        (
+          all .1 .1,
+          right-left (start at .args .numbers .now) right (start at .args .out .now) (defined at .output) (call .read .last .1 .1 .1 .1 .1 .0)
+              (ap (λ (x : Reading). x .output) (call .read .ensures)),
+        ),
+      ),
+    )
 
 pub nv-read-spec : {M : Type 1} → statement M
 nv-read-spec =

@@ -2,6 +2,10 @@
 use mathlib.Core.Path.{_≡_, refl, sym, ap, _∙_}
 use native.Mathlib.Omega.{arith}
 use borrow.Author.Needs.{needs}
+use Prim.Native.Nat.{ℕ}
+use mathlib.Core.List.{List}
+use Rattle.words.specs.Bytes.{toLe, put}
+use Rattle.c_calls.proofs.Told.{numbers-put}
 use Rattle.c_calls.proofs.put_numbers.Statement.{statement}
 use Rattle.c_calls.proofs.put_numbers.Tie as tie
 
@@ -18,7 +22,15 @@ same-length : tie.Need-same-length
 same-length c = search needs
 
 returns : tie.Need-returns
-returns c = ?
+returns c =
+    let third = c .before .before in
+    let second = third .before .before .before .before in
+    let first = second .before .before .before .before in
+    let s = first .before .before .before in
+    let a = s .args in
+    third .store643 .ensures
+    ∙ ap (λ (l : List ℕ). put l 16 (toLe 8 (a .second))) (second .store642 .ensures ∙ ap (λ (l : List ℕ). put l 8 (toLe 8 (a .first))) (first .store64 .ensures))
+    ∙ numbers-put (a .numbers .now) (a .stores) (a .first) (a .second) (s .pre)
 
 pub put-numbers-spec : {M : Type 1} → statement M
 put-numbers-spec =
