@@ -2,7 +2,7 @@
 use mathlib.Core.Path.{_≡_, refl, sym, ap, ap₂, _∙_, subst}
 use mathlib.Core.Bool.{cond}
 use mathlib.Core.List.{List, [], _∷_, _++_, append-nil}
-use Prim.Native.Nat.{ℕ, zero, suc, _^_, _≤_, _<_}
+use Prim.Native.Nat.{ℕ, zero, suc, _≤_, _<_}
 use native.Mathlib.Omega.{arith}
 use borrow.Author.Tests.{eq-eqb, ne-eqb}
 use lib.Dec.{eqb}
@@ -69,9 +69,9 @@ module _ (numbers : List ℕ) (right : length numbers ≡ 24) where
       let same = ap (λ (z : Called). z .answer) e in
       (right-code r f same, (right-buffer n g same, right-left m (x .after) l (ap (λ (z : Called). z .after) e)))
 
--- the code of a call fits a word
-pub code-word : (x : Called) (b : Answer) (l : Module) → record { answer = b; after = l } ≡ x → codeOf (x .answer) ≤ 129 → codeOf b < 2 ^ 32
-code-word x b l e p = omega (arith, ap (λ (z : Called). codeOf (z .answer)) e)
+-- the code of a call is small
+pub code-small : (x : Called) (b : Answer) (l : Module) → record { answer = b; after = l } ≡ x → codeOf (x .answer) ≤ 129 → codeOf b < 200
+code-small x b l e p = omega (arith, ap (λ (z : Called). codeOf (z .answer)) e)
 
 -- ---- the list of dirty pages
 

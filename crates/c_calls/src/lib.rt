@@ -1,7 +1,7 @@
 // The calls for C: include/nightvelvet.h. A slice is a pointer and a length in C.
 ghost use mathlib.Core.Path.{_≡_};
 ghost use mathlib.Core.List.{[], _∷_};
-ghost use Prim.Native.Nat.{_^_, _<_};
+ghost use Prim.Native.Nat.{_<_};
 ghost use lib.ListN.{length};
 ghost use Rattle.words.specs.Bytes.{bytesOf};
 ghost use Rattle.answer.specs.Answer.{codeOf, valuesOf};
@@ -31,7 +31,7 @@ fn put_numbers(numbers: &mut [u8], stores: u64, first: u64, second: u64)
 
 // Writes the numbers of an answer, and gives its code.
 fn tell(answer: Answer, numbers: &mut [u8]) -> u32
-    requires { ⌜ (length (now numbers) ≡ 24) × (codeOf answer < 2 ^ 32) ⌝ }
+    requires { ⌜ (length (now numbers) ≡ 24) × (codeOf answer < 200) ⌝ }
     ensures { λ r. ⌜ r ≡ codeOf answer ⌝ }
     ensures { λ _. ⌜ now (numbers .exit) ≡ bytesOf 8 (valuesOf answer) ⌝ }
 {

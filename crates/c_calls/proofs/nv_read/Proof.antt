@@ -4,7 +4,7 @@ use borrow.Author.Needs.{needs}
 use Rattle.calls.specs.Call.{Module, buffers}
 use Rattle.calls.specs.Read.{Reading, read}
 use Rattle.c_calls.proofs.Codes.{read-fits}
-use Rattle.c_calls.proofs.Told.{wrong-call, wrong-left, right-call, right-left, code-word}
+use Rattle.c_calls.proofs.Told.{wrong-call, wrong-left, right-call, right-left, code-small}
 use Rattle.c_calls.proofs.nv_read.Statement.{statement}
 use Rattle.c_calls.proofs.nv_read.Tie as tie
 
@@ -32,7 +32,7 @@ tell-requires c κs =
     let call = c .before .before .before .before .before .before .before .before .before in
     let at = call .before .before .before .before .before .before in (
       call .before .before .before .before .before .if1 .left,
-      code-word (defined at .called) (call .read .result) (buffers (call .read .last .1 .1 .0) (call .read .last .1 .0) (call .read .last .1 .1 .1 .0)) (ap (λ (x : Reading). x .called) (call .read .ensures)) (read-fits (start at .args .keys .now) (start at .args .line) (start at .args .allowance) (start at .args .out .now) (given at) .code),
+      code-small (defined at .called) (call .read .result) (buffers (call .read .last .1 .1 .0) (call .read .last .1 .0) (call .read .last .1 .1 .1 .0)) (ap (λ (x : Reading). x .called) (call .read .ensures)) (read-fits (start at .args .keys .now) (start at .args .line) (start at .args .allowance) (start at .args .out .now) (given at) .code),
     )
 
 same-length : tie.Need-same-length

@@ -4,7 +4,7 @@ use borrow.Author.Needs.{needs}
 use Rattle.calls.specs.Call.{Module, Called, buffers}
 use Rattle.calls.specs.Recovery.{recover}
 use Rattle.c_calls.proofs.Codes.{recover-fits}
-use Rattle.c_calls.proofs.Told.{wrong-call, right-call, code-word}
+use Rattle.c_calls.proofs.Told.{wrong-call, right-call, code-small}
 use Rattle.c_calls.proofs.nv_recover.Statement.{statement}
 use Rattle.c_calls.proofs.nv_recover.Tie as tie
 
@@ -29,7 +29,7 @@ tell-requires c κs =
     let call = c .before .before .before .before .before .before .before in
     let at = call .before .before .before .before .before in (
       call .before .before .before .before .if1 .left,
-      code-word (defined at) (call .recover .result) (buffers (call .recover .last .1 .1 .0) (call .recover .last .1 .0) (call .recover .last .1 .1 .1 .0)) (call .recover .ensures) (recover-fits (start at .args .keys .now) (start at .args .allowance) (given at) .code),
+      code-small (defined at) (call .recover .result) (buffers (call .recover .last .1 .1 .0) (call .recover .last .1 .0) (call .recover .last .1 .1 .1 .0)) (call .recover .ensures) (recover-fits (start at .args .keys .now) (start at .args .allowance) (given at) .code),
     )
 
 same-length : tie.Need-same-length
