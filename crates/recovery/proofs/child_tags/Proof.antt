@@ -1,6 +1,6 @@
 -- `recovery::child_tags` stores the tags of the eight children, one by one. Assumes nothing.
 use mathlib.Core.Path.{_≡_, sym, ap, _∙_}
-use Prim.Native.Nat.{ℕ, _+_, _-_, _*_, _≤_, _<_, zero-le}
+use Prim.Native.Nat.{_+_, _-_, _*_, _≤_, _<_, zero-le}
 use native.Mathlib.Omega.{arith}
 use lib.ListN.{length}
 use Rattle.memory_map.specs.Map.{InMap}
@@ -72,7 +72,8 @@ loop-again c =
     let s = start at in (
       omega arith,
       tagged-next (s .args .keys .now) (s .args .l) _ (s .args .i) (s .args .out .now) (s .pre .1 .1 .1) (at .loop .inv .1)
-          (turn .loop-test .taken) (found .current .ensures) (tagged .node-tag .ensures) (stored .store64 .ensures) (stored .store64 .kept .0),
+          (turn .loop-test .taken) (found .current .ensures) (tagged .node-tag .ensures) (stored .store64 .ensures)
+          (stored .store64 .kept .0),
     )
 
 same-length : tie.Need-same-length Inv-loop μ-loop
