@@ -38,7 +38,8 @@ module _ (keys : List ℕ) (k : ℕ) (m : Module) (os : List ℕ) where
 
   -- d with the counters rebuilt, c with the nodes too; t is the top's tag, q the root
   module _ {d c : List ℕ} {sum : ℕ} {r : Rebuilt} (counters : rebuilt d sum ≡ r)
-      (nodes : c ≡ rebuildNodes h keys (m .array) 4 (drop 4 os) d) {t q : ℕ} (tag : t ≡ nodeTag keys (current h (m .array) c h 0) h 0) (right : q ≡ root (m .control)) where
+      (nodes : c ≡ rebuildNodes h keys (m .array) 4 (drop 4 os) d) {t q : ℕ}
+      (tag : t ≡ nodeTag keys (current h (m .array) c h 0) h 0) (right : q ≡ root (m .control)) where
     by-root : (b : Bool) → eqb t q ≡ b
         → cond b (ended (Done k sum) (m .array) (m .control) c) (refuseAfter k m 29 0) ≡ recoverRebuilt keys k m os r
     unfolding recoverRebuilt recoverRoot
