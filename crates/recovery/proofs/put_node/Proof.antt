@@ -3,10 +3,11 @@ use mathlib.Core.Path.{ap, _∙_}
 use native.Mathlib.Omega.{arith}
 use borrow.Author.Needs.{needs}
 use lib.ListN.{length}
+use Rattle.memory_map.proofs.Laws.{index-small}
 use Rattle.slot_map.specs.Slots.{levelOf}
 use Rattle.cache.proofs.Laws.{slot-room}
 use Rattle.call_laws.proofs.Tags.{tags-length}
-use Rattle.recovery.proofs.Nodes.{level-some, level-below, index-small, node-put}
+use Rattle.recovery.proofs.Nodes.{level-some, level-below, node-put}
 use Rattle.recovery.proofs.put_node.Statement.{statement}
 use Rattle.recovery.proofs.put_node.Tie as tie
 

@@ -9,6 +9,7 @@ use lib.ListN.{length, getD}
 use Rattle.words.proofs.Digits.{Below}
 use Rattle.memory_map.specs.Map.{InMap, slots}
 use Rattle.memory_map.specs.Map.Item.{node}
+use Rattle.memory_map.proofs.Laws.{index-small}
 use Rattle.slot_map.proofs.Laws.{level-low}
 use Rattle.counter.proofs.Laws.{length-minors, below-minors}
 use Rattle.cache.specs.Cache.{cellContent}
@@ -19,7 +20,6 @@ use Rattle.recovery.specs.Rebuild.{counted}
 use Rattle.recovery.proofs.Forward.{Forwarding, forwarding-none, forwarding-next, forwarded-ge, forwarded-le}
 use Rattle.recovery.proofs.Blocks.{Rebuilding, rebuilding-empty, rebuilding-fails, rebuilding-next, rebuilding-same}
 use Rattle.recovery.proofs.Blocks.{blocks-end, placed-node, page-lines}
-use Rattle.recovery.proofs.Nodes.{index-small}
 use Rattle.recovery.proofs.rebuild_counters.Statement.{statement}
 use Rattle.recovery.proofs.rebuild_counters.Tie as tie
 
