@@ -8,7 +8,7 @@ use lib.ListN.{length, getD}
 use Rattle.words.specs.Bytes.{toLe, put}
 use Rattle.words.proofs.Digits.{length-digits}
 use Rattle.words.proofs.Parts.{put-nil, put-append, put-all}
-use Rattle.memory_map.specs.Map.{InMap, slots}
+use Rattle.memory_map.specs.Map.{InMap}
 use Rattle.memory_map.specs.Map.Item.{node}
 use Rattle.slot_map.specs.Slots.{cacheLength, levelOf}
 use Rattle.slot_map.proofs.Laws.{level-high}
