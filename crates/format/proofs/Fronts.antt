@@ -12,7 +12,7 @@ use Rattle.words.proofs.Parts.{part-first, part-part, put-nil, put-append}
 use Rattle.words.proofs.Puts.{part-put-before}
 use Rattle.memory_map.specs.Map.{nodes, levelStart, shadowStart, shadowCells, cells, arrayLength, cellOf, InMap}
 use Rattle.memory_map.specs.Map.Item.{node}
-use Rattle.memory_map.proofs.Laws.{level-next, nodes-below, cell-within, in-map-node, node-cell}
+use Rattle.memory_map.proofs.Laws.{level-next, cell-within, in-map-node, child-node, node-cell}
 use Rattle.tag.specs.Tag.{nodeTag}
 use Rattle.cache.specs.Cache.{cellContent}
 use Rattle.calls.specs.Path.{tagsFrom, childTags}
@@ -102,13 +102,9 @@ module _ (h l i : ℕ) (m : InMap h (node (l + 1) i)) where
   up = subst (λ (n : ℕ). (n ≤ h) × (i < nodes h n)) (add-one l) (in-map-node h (l + 1) i m)
 
   -- its children, and those of the nodes before it, lie before it
-  pub child : (j : ℕ) → j < 8 * i + 8 → InMap h (node l j)
-  unfolding InMap
-  child j p = (omega (arith, up .0), omega (arith, up .1, nodes-below h l (up .0)))
-
   child-before : (j : ℕ) → j < 8 * i + 8 → cellOf h (node l j) < cellOf h (node (l + 1) i)
   unfolding cellOf
-  child-before j p = omega (arith, in-map-node h l j (child j p) .1, ap (levelStart h) (add-one l), level-next h l)
+  child-before j p = omega (arith, in-map-node h l j (child-node h l i m j p) .1, ap (levelStart h) (add-one l), level-next h l)
 
   module _ (keys a : List ℕ) (size : length a ≡ arrayLength h) where
     pub tagged-none : Tagged h l i keys a a 0
@@ -154,7 +150,7 @@ module _ (h l i : ℕ) (m : InMap h (node (l + 1) i)) where
       let next : n + 1 ≡ levelStart h (l + 1) + (i + 1) = omega arith in
       let front : a ≡ freshFront keys h n = e ∙ ap (freshFront keys h) (sym at-cell) in
       let stored : (j : ℕ) → 8 * i ≤ j → j < 8 * i + 8 → lying h a l j ≡ freshNode keys none l j = λ j p q.
-      let inside = in-map-node h l j (child j q) in
+      let inside = in-map-node h l j (child-node h l i m j q) in
       ap (λ (s : List ℕ). lying h s l j) front ∙ front-content keys h n (cellOf h (node l j)) (omega arith) (child-before j q)
       ∙ node-stored keys h l j (inside .0) (inside .1) in
       let b = freshNode keys none (suc l) i in

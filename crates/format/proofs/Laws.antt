@@ -9,7 +9,7 @@ use lib.Dec.{leb}
 use lib.ListN.{length, set, replicate, length-replicate}
 use Rattle.words.specs.Bytes.{digits, toLe, put}
 use Rattle.words.proofs.Parts.{put-all}
-use Rattle.memory_map.specs.Map.{cellOf, InMap}
+use Rattle.memory_map.specs.Map.{cellOf}
 use Rattle.memory_map.specs.Map.Item.{node}
 use Rattle.memory_map.proofs.Laws.{nodes-some}
 use Rattle.slot_map.specs.Slots.{cacheLength}
@@ -78,10 +78,6 @@ module _ (keys : List ℕ) (h : ℕ) (m : Module) where
       → r ≡ freshRoot keys none h → c ≡ replicate (cacheLength h) 0 → ended (Done 0 0) a k c ≡ format keys h m
   unfolding format formatted
   done z {a} {k} {c} {r} ea ek er ec = rw (format, ← z) (rw (ea, ek, er, ec))
-
-pub top : (h : ℕ) → InMap h (node h 0)
-unfolding InMap
-top h = (le-refl h, nodes-some h h)
 
 pub root-fresh : (keys : List ℕ) (h : ℕ) {a b : List ℕ} {n r : ℕ} → a ≡ freshArray keys h → n ≡ cellOf h (node h 0)
     → b ≡ cellContent a n → r ≡ nodeTag keys b h 0 → r ≡ freshRoot keys none h

@@ -212,3 +212,18 @@ all-cells h = rw add-one
 pub in-map-node : (h l i : ℕ) → InMap h (node l i) → (l ≤ h) × (i < nodes h l)
 unfolding InMap
 in-map-node h l i m = m
+
+-- the top
+pub top-node : (h : ℕ) → InMap h (node h 0)
+unfolding InMap
+top-node h = (le-refl h, nodes-some h h)
+
+-- the children of a node, and those of the nodes before it
+pub child-node : (h l i : ℕ) → InMap h (node (l + 1) i) → (j : ℕ) → j < 8 * i + 8 → InMap h (node l j)
+unfolding InMap
+child-node h l i m j p =
+    let up = subst (λ (n : ℕ). (n ≤ h) × (i < nodes h n)) (add-one l) m in
+    (omega (arith, up .0), omega (arith, up .1, nodes-below h l (up .0)))
+
+pub index-small : (h l i : ℕ) → InMap h (node l i) → h ≤ 3 → i < 512
+index-small h l i m p = omega (arith, in-map-node h l i m .1, nodes-small {h = h} l refl p)

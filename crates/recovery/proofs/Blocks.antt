@@ -1,9 +1,8 @@
 -- Counter slots rebuilt one by one. Assumes nothing.
-use mathlib.Core.Path.{_≡_, refl, sym, ap, ap₂, _∙_, subst}
-use mathlib.Core.Bool.{true}
-use mathlib.Core.List.{List, [], _∷_}
+use mathlib.Core.Path.{_≡_, refl, sym, ap, ap₂, _∙_}
+use mathlib.Core.List.{List, _∷_}
 use mathlib.Core.Option.{Option, none, some}
-use Prim.Native.Nat.{ℕ, zero, suc, _+_, _-_, _*_, _≤_, _<_, zero-le}
+use Prim.Native.Nat.{ℕ, zero, suc, _+_, _-_, _*_, _≤_, _<_}
 use native.Mathlib.Numerals.{add-one}
 use native.Mathlib.Omega.{arith}
 use lib.ListN.{length, getD, set, take, drop}
@@ -39,7 +38,8 @@ block-put c s o d m ms h =
     ∙ slot-put c s o d (counterBlock m ms) h full
 
 -- an owner is a node of its slot's level
-pub placed-node : (h : ℕ) (os : List ℕ) → Placed h os → (s o : ℕ) → s < slots h → o ≡ getD os s 0 → (o ≡ 0 → ⊥) → InMap h (node (levelOf s) (o - 1))
+pub placed-node : (h : ℕ) (os : List ℕ) → Placed h os → (s o : ℕ) → s < slots h → o ≡ getD os s 0 → (o ≡ 0 → ⊥)
+    → InMap h (node (levelOf s) (o - 1))
 unfolding InMap
 placed-node h os f s zero p e q = absurd (q refl)
 placed-node h os f s (suc i) p e q =
@@ -57,7 +57,14 @@ pub filled : (o : ℕ) → (o ≡ 0 → ⊥) → o ≡ suc (o - 1)
 filled o p = omega arith
 
 module _ (h : ℕ) (a os : List ℕ) where
-  -- what is left to do from slot s on
+  abbrev owner : ℕ → ℕ
+  owner s = getD os s 0
+
+  -- what is left to do after a slot
+  abbrev onward : ℕ → List ℕ → Rebuilt → Rebuilt
+  onward s os r = elim r as (λ z. Rebuilt) [ damaged ↦ damaged | rebuilt d t ↦ rebuildBlocks h a s os d t ]
+
+  -- and from slot s on
   abbrev pub blocksFrom : ℕ → List ℕ → ℕ → Rebuilt
   blocksFrom s c sum = rebuildBlocks h a s (left os 4 s) c sum
 
@@ -83,69 +90,73 @@ module _ (h : ℕ) (a os : List ℕ) where
 
   module _ (size : length os ≡ 10) where
     module _ (s : ℕ) (p : s < 4) (c : List ℕ) (sum : ℕ) where
-      slot-then : {r : Rebuilt} → rebuildSlot h a c sum s (getD os s 0) ≡ r
-          → blocksFrom s c sum ≡ elim r as (λ z. Rebuilt) [ damaged ↦ damaged | rebuilt d t ↦ rebuildBlocks h a (suc s) (left os 4 (s + 1)) d t ]
+      slot-then : {r : Rebuilt} → rebuildSlot h a c sum s (owner s) ≡ r → blocksFrom s c sum ≡ onward (suc s) (left os 4 (s + 1)) r
       unfolding rebuildBlocks
       slot-then {r} e =
           ap (λ (l : List ℕ). rebuildBlocks h a s l c sum) (left-next os 4 s p (omega arith))
-          ∙ ap (λ (x : Rebuilt). elim x as (λ z. Rebuilt) [ damaged ↦ damaged | rebuilt d t ↦ rebuildBlocks h a (suc s) (left os 4 (s + 1)) d t ]) e
+          ∙ ap (onward (suc s) (left os 4 (s + 1))) e
 
-      slot-first : {d : List ℕ} {t : ℕ} → rebuildSlot h a c sum s (getD os s 0) ≡ rebuilt d t → blocksFrom s c sum ≡ blocksFrom (s + 1) d t
+      slot-first : {d : List ℕ} {t : ℕ} → rebuildSlot h a c sum s (owner s) ≡ rebuilt d t → blocksFrom s c sum ≡ blocksFrom (s + 1) d t
       slot-first {d} {t} e = slot-then e ∙ ap (λ (k : ℕ). rebuildBlocks h a k (left os 4 (s + 1)) d t) (sym (add-one s))
 
-      slot-ends : rebuildSlot h a c sum s (getD os s 0) ≡ damaged → blocksFrom s c sum ≡ damaged
+      slot-ends : rebuildSlot h a c sum s (owner s) ≡ damaged → blocksFrom s c sum ≡ damaged
       slot-ends e = slot-then e
 
-      pub blocks-empty : getD os s 0 ≡ 0 → blocksFrom s c sum ≡ blocksFrom (s + 1) c sum
+      pub blocks-empty : owner s ≡ 0 → blocksFrom s c sum ≡ blocksFrom (s + 1) c sum
       unfolding rebuildSlot
       blocks-empty e = slot-first (ap (rebuildSlot h a c sum s) e)
 
-      module _ (o : ℕ) (e : o ≡ getD os s 0) (some· : o ≡ 0 → ⊥) where
-        block : rebuildSlot h a c sum s (getD os s 0) ≡ rebuildBlock h a c sum s (o - 1)
+      -- a filled slot: the owner's block b, and the minors ms of this
+      module _ (some· : owner s ≡ 0 → ⊥) {b ms : List ℕ} (u : b ≡ cellContent a (cellOf h (node 0 (owner s - 1))))
+          (w : ms ≡ minors b) where
+        block : rebuildSlot h a c sum s (owner s) ≡ rebuildBlock h a c sum s (owner s - 1)
         unfolding rebuildSlot
-        block = ap (rebuildSlot h a c sum s) (sym e ∙ filled o some·)
+        block = ap (rebuildSlot h a c sum s) (filled (owner s) some·)
 
-        pub blocks-damaged : {b ms : List ℕ} → b ≡ cellContent a (cellOf h (node 0 (o - 1))) → ms ≡ minors b
-            → forwardFrom a (64 * (o - 1)) ms ≡ none → blocksFrom s c sum ≡ damaged
-        unfolding rebuildBlock
-        blocks-damaged {b} {ms} u w f =
-            let at : forwardFrom a (64 * (o - 1)) (minors (cellContent a (cellOf h (node 0 (o - 1))))) ≡ none =
-            ap (forwardFrom a (64 * (o - 1))) (sym (w ∙ ap minors u)) ∙ f in
-            slot-ends (block ∙ rw (rebuildBlock, at))
+        as-minors : ms ≡ minors (cellContent a (cellOf h (node 0 (owner s - 1))))
+        as-minors = w ∙ ap minors u
 
-        pub blocks-next : {b ms cur d : List ℕ} {t : ℕ} → b ≡ cellContent a (cellOf h (node 0 (o - 1))) → ms ≡ minors b
-            → forwardFrom a (64 * (o - 1)) ms ≡ some cur → t ≡ sum + (total cur - total ms)
-            → {ma : ℕ} → ma ≡ major b → d ≡ withSlot c s o 1 (counterBlock ma cur) → blocksFrom s c sum ≡ blocksFrom (s + 1) d t
+        as-forward : {r : Option (List ℕ)} → forwardFrom a (64 * (owner s - 1)) ms ≡ r
+            → forwardFrom a (64 * (owner s - 1)) (minors (cellContent a (cellOf h (node 0 (owner s - 1))))) ≡ r
+        as-forward f = ap (forwardFrom a (64 * (owner s - 1))) (sym as-minors) ∙ f
+
+        blocks-damaged : forwardFrom a (64 * (owner s - 1)) ms ≡ none → blocksFrom s c sum ≡ damaged
         unfolding rebuildBlock
-        blocks-next {b} {ms} {cur} {d} {t} u w f g {ma} m z =
-            let cell = cellContent a (cellOf h (node 0 (o - 1))) in
-            let at : forwardFrom a (64 * (o - 1)) (minors cell) ≡ some cur = ap (forwardFrom a (64 * (o - 1))) (sym (w ∙ ap minors u)) ∙ f in
-            let slot : withSlot c s (suc (o - 1)) 1 (counterBlock (major cell) cur) ≡ d =
-            ap₂ {C = List ℕ} (λ (k i : ℕ). withSlot c s k 1 (counterBlock i cur)) (sym (filled o some·)) (sym (m ∙ ap major u)) ∙ sym z in
-            let told : sum + (total cur - total (minors cell)) ≡ t = ap (λ (x : List ℕ). sum + (total cur - total x)) (sym (w ∙ ap minors u)) ∙ sym g in
-            slot-first (block ∙ rw (rebuildBlock, at) (ap₂ {C = Rebuilt} rebuilt slot told))
+        blocks-damaged f = slot-ends (block ∙ rw (rebuildBlock, as-forward f))
+
+        blocks-next : {cur d : List ℕ} {t ma : ℕ} → forwardFrom a (64 * (owner s - 1)) ms ≡ some cur → t ≡ sum + (total cur - total ms)
+            → ma ≡ major b → d ≡ withSlot c s (owner s) 1 (counterBlock ma cur) → blocksFrom s c sum ≡ blocksFrom (s + 1) d t
+        unfolding rebuildBlock
+        blocks-next {cur} {d} {t} {ma} f g m z =
+            let cell = cellContent a (cellOf h (node 0 (owner s - 1))) in
+            let slot : withSlot c s (suc (owner s - 1)) 1 (counterBlock (major cell) cur) ≡ d =
+            ap₂ {C = List ℕ} (λ (k i : ℕ). withSlot c s k 1 (counterBlock i cur)) (sym (filled (owner s) some·)) (sym (m ∙ ap major u))
+            ∙ sym z in
+            let told : sum + (total cur - total (minors cell)) ≡ t =
+            ap (λ (x : List ℕ). sum + (total cur - total x)) (sym as-minors) ∙ sym g in
+            slot-first (block ∙ rw (rebuildBlock, as-forward f) (ap₂ {C = Rebuilt} rebuilt slot told))
 
     module _ {first c : List ℕ} {sum s : ℕ} (r : Rebuilding first c sum s) (p : s < 4) where
-      pub rebuilding-empty : getD os s 0 ≡ 0 → Rebuilding first c sum (s + 1)
+      pub rebuilding-empty : owner s ≡ 0 → Rebuilding first c sum (s + 1)
       rebuilding-empty e =
           record { most = omega arith; few = omega (arith, r .few); full = r .full; rest = r .rest ∙ blocks-empty s p c sum e }
 
       -- the owner's block b lies in cell n, and its minors ms are brought forward in cur
-      module _ (some· : getD os s 0 ≡ 0 → ⊥) {n : ℕ} {b ms cur : List ℕ} {j t : ℕ} (cell : n ≡ cellOf h (node 0 (getD os s 0 - 1)))
-          (block : b ≡ cellContent a n) (unpacked : ms ≡ minors b) (f : Forwarding a (64 * (getD os s 0 - 1)) ms sum cur j t) where
-        pub rebuilding-fails : j < 64 → {v : ℕ} → v ≡ forwarded (getD cur j 0) (phaseByte a (64 * (getD os s 0 - 1) + j)) → 128 ≤ v
+      module _ (some· : owner s ≡ 0 → ⊥) {n : ℕ} {b ms cur : List ℕ} {j t : ℕ} (cell : n ≡ cellOf h (node 0 (owner s - 1)))
+          (block : b ≡ cellContent a n) (unpacked : ms ≡ minors b) (f : Forwarding a (64 * (owner s - 1)) ms sum cur j t) where
+        pub rebuilding-fails : j < 64 → {v : ℕ} → v ≡ forwarded (getD cur j 0) (phaseByte a (64 * (owner s - 1) + j)) → 128 ≤ v
             → damaged ≡ blocksFrom 0 first 0
         rebuilding-fails q e z =
-            sym (r .rest ∙ blocks-damaged s p c sum (getD os s 0) refl some· (block ∙ ap (cellContent a) cell) unpacked
-            (forwarding-fails a (64 * (getD os s 0 - 1)) ms sum f q e z))
+            sym (r .rest ∙ blocks-damaged s p c sum some· (block ∙ ap (cellContent a) cell) unpacked
+            (forwarding-fails a (64 * (owner s - 1)) ms sum f q e z))
 
-        pub rebuilding-next : j ≤ 64 → 64 ≤ j → {ma : ℕ} {d : List ℕ} → ma ≡ major b → d ≡ withSlot c s (getD os s 0) 1 (counterBlock ma cur)
-            → length d ≡ length c → Rebuilding first d t (s + 1)
+        pub rebuilding-next : j ≤ 64 → 64 ≤ j → {ma : ℕ} {d : List ℕ} → ma ≡ major b
+            → d ≡ withSlot c s (owner s) 1 (counterBlock ma cur) → length d ≡ length c → Rebuilding first d t (s + 1)
         rebuilding-next q all m e l =
             record {
               most = omega arith;
               few = omega (arith, r .few, f .least);
               full = l ∙ r .full;
-              rest = r .rest ∙ blocks-next s p c sum (getD os s 0) refl some· (block ∙ ap (cellContent a) cell) unpacked
-                  (forwarding-all a (64 * (getD os s 0 - 1)) ms sum f all) (forwarding-sum a (64 * (getD os s 0 - 1)) ms sum f) m e;
+              rest = r .rest ∙ blocks-next s p c sum some· (block ∙ ap (cellContent a) cell) unpacked
+                  (forwarding-all a (64 * (owner s - 1)) ms sum f all) (forwarding-sum a (64 * (owner s - 1)) ms sum f) m e;
             }

@@ -149,7 +149,8 @@ module _ (a : List ℕ) (n : ℕ) (ms : List ℕ) (first : ℕ) where
                 f .rest
                 ∙ ap (prefixed (take j cur)) (ap (forwardFrom a (n + j)) next
                 ∙ forward-one a (n + j) (getD cur j 0) (drop (suc j) cur) fine)
-                ∙ prefixed-more (take j cur) (forward (getD cur j 0) (phaseByte a (n + j)) ∷ []) (forwardFrom a (suc (n + j)) (drop (suc j) cur))
+                ∙ prefixed-more (take j cur) (forward (getD cur j 0) (phaseByte a (n + j)) ∷ [])
+                (forwardFrom a (suc (n + j)) (drop (suc j) cur))
                 ∙ ap (λ (x : ℕ). prefixed (take j cur ++ (x ∷ [])) (forwardFrom a (suc (n + j)) (drop (suc j) cur))) (sym is)
                 ∙ ap₂ {C = Option (List ℕ)} (λ (xs ys : List ℕ). prefixed xs (forwardFrom a (suc (n + j)) ys))
                 (sym (take-suc-set cur j v room) ∙ ap (λ (k : ℕ). take k (set cur j v)) (sym (add-one j)))

@@ -1,17 +1,15 @@
 -- Nodes rebuilt one by one. Assumes nothing.
-use mathlib.Core.Path.{_≡_, refl, sym, ap, ap₂, _∙_, subst}
-use mathlib.Core.List.{List, [], _∷_, _++_}
-use Prim.Native.Nat.{ℕ, zero, suc, _+_, _-_, _*_, _≤_, _<_}
-use native.Mathlib.Nat.{le-refl}
+use mathlib.Core.Path.{_≡_, sym, ap, ap₂, _∙_, subst}
+use mathlib.Core.List.{List}
+use Prim.Native.Nat.{ℕ, suc, _+_, _-_, _*_, _≤_, _<_}
 use native.Mathlib.Numerals.{add-one}
 use native.Mathlib.Omega.{arith}
-use lib.ListN.{length, getD, take, drop}
+use lib.ListN.{length, getD}
 use Rattle.words.specs.Bytes.{toLe, put}
 use Rattle.words.proofs.Digits.{length-digits}
 use Rattle.words.proofs.Parts.{put-nil, put-append, put-all}
-use Rattle.memory_map.specs.Map.{InMap, nodes, slots}
+use Rattle.memory_map.specs.Map.{InMap}
 use Rattle.memory_map.specs.Map.Item.{node}
-use Rattle.memory_map.proofs.Laws.{in-map-node, nodes-below, nodes-some, nodes-small}
 use Rattle.slot_map.specs.Slots.{cacheLength, levelOf}
 use Rattle.slot_map.proofs.Laws.{level-high}
 use Rattle.tag.specs.Tag.{nodeTag}
@@ -21,23 +19,6 @@ use Rattle.calls.specs.Path.{tagsFrom, childTags}
 use Rattle.calls.specs.Recovery.{rebuildNode, rebuildNodes}
 use Rattle.call_laws.proofs.Tags.{tags-length, tags-snoc}
 use Rattle.recovery.proofs.Blocks.{left, left-next}
-
-pub top : (h : ℕ) → InMap h (node h 0)
-unfolding InMap
-top h = (le-refl h, nodes-some h h)
-
-pub index-small : (h l i : ℕ) → InMap h (node l i) → h ≤ 3 → i < 512
-index-small h l i m p = omega (arith, in-map-node h l i m .1, nodes-small {h = h} l refl p)
-
--- ---- the tags of a node's children
-
-module _ (h l i : ℕ) (m : InMap h (node (l + 1) i)) where
-  up : (suc l ≤ h) × (i < nodes h (suc l))
-  up = subst (λ (n : ℕ). (n ≤ h) × (i < nodes h n)) (add-one l) (in-map-node h (l + 1) i m)
-
-  pub child : (k : ℕ) → k < 8 → InMap h (node l (8 * i + k))
-  unfolding InMap
-  child k p = (omega (arith, up .0), omega (arith, up .1, nodes-below h l (up .0)))
 
 -- the tags of the first k children, whose contents f tells, are stored in s
 pub record Tagged (keys : List ℕ) (l : ℕ) (f : ℕ → List ℕ) (i : ℕ) (o s : List ℕ) (k : ℕ) : Type 0 where

@@ -1,7 +1,7 @@
 // Recovery after a power failure, as a call.
 ghost use mathlib.Core.Path.{_≡_};
 ghost use mathlib.Core.Bool.{cond};
-ghost use Prim.Native.Nat.{ℕ, suc, _+_, _-_, _*_, _<_, _≤_};
+ghost use Prim.Native.Nat.{ℕ, suc, _+_, _*_, _<_, _≤_};
 ghost use lib.ListN.{length, getD, take, drop};
 ghost use Rattle.memory_map.specs.Map.Item.{node};
 ghost use Rattle.memory_map.specs.Map.{InMap, slots as slotsOf};
@@ -9,7 +9,7 @@ ghost use Rattle.slot_map.specs.Slots.{levelOf};
 ghost use Rattle.counter.specs.Counter.{counterBlock, forward, mayForward};
 ghost use Rattle.tag.specs.Tag.{nodeTag};
 ghost use Rattle.control.specs.Control.{controlLength, depth as depthOf};
-ghost use Rattle.cache.specs.Cache.{withSlot, emptyCache, current};
+ghost use Rattle.cache.specs.Cache.{withSlot, current};
 ghost use Rattle.node.specs.Sized.{Sized};
 ghost use Rattle.calls.specs.Path.{childTags};
 ghost use Rattle.calls.specs.Call.{buffers, ended};

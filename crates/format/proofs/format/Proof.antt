@@ -3,12 +3,13 @@ use mathlib.Core.Path.{_≡_, sym, ap, _∙_}
 use borrow.Author.Needs.{needs}
 use lib.ListN.{length, replicate}
 use Rattle.memory_map.specs.Map.{arrayLength}
+use Rattle.memory_map.proofs.Laws.{top-node}
 use Rattle.cache.specs.Cache.{cellContent}
 use Rattle.cache.proofs.Laws.{cell-length}
 use Rattle.node.proofs.Laws.{cell-room}
 use Rattle.calls.specs.Call.{Module, buffers}
 use Rattle.call_laws.proofs.Judged.{Formattable, format-accepted}
-use Rattle.format.proofs.Laws.{refused, done, top, root-fresh, zeroed}
+use Rattle.format.proofs.Laws.{refused, done, root-fresh, zeroed}
 use Rattle.format.proofs.format.Statement.{statement}
 use Rattle.format.proofs.format.Tie as tie
 
@@ -62,13 +63,13 @@ put-tree-requires c κs =
 node-cell-requires : tie.Need-node-cell-requires
 node-cell-requires c κs =
     let at = tested (zero-at (c .before .before .before)) in
-    (ok at .low, (ok at .high, top (start at .args .depth)))
+    (ok at .low, (ok at .high, top-node (start at .args .depth)))
 
 in-cell-requires : tie.Need-in-cell-requires
 in-cell-requires c κs =
     let tree = c .before .before .before .before in
     rw (c .node-cell .ensures)
-    (cell-room _ (tree .put-tree .last .1 .1 .0) _ _ (full tree) (top (start (tested (zero-at tree)) .args .depth)))
+    (cell-room _ (tree .put-tree .last .1 .1 .0) _ _ (full tree) (top-node (start (tested (zero-at tree)) .args .depth)))
 
 node-tag-requires : tie.Need-node-tag-requires
 node-tag-requires c κs =
@@ -77,7 +78,7 @@ node-tag-requires c κs =
     let a = tree .put-tree .last .1 .1 .0 in (
       ok at .keys48,
       ap length (c .in-cell .ensures ∙ ap (cellContent a) (c .before .node-cell .ensures))
-          ∙ cell-length (start at .args .depth) a _ (full tree) (top (start at .args .depth)),
+          ∙ cell-length (start at .args .depth) a _ (full tree) (top-node (start at .args .depth)),
     )
 
 put-control-requires : tie.Need-put-control-requires

@@ -1,17 +1,17 @@
 -- `format::put_node` stores the tags of the eight children, one by one. Assumes nothing.
-use mathlib.Core.Path.{_≡_, refl, sym, ap, _∙_}
+use mathlib.Core.Path.{_≡_, sym, ap, _∙_}
 use Prim.Native.Nat.{ℕ, _+_, _-_, _*_, _≤_, _<_, zero-le}
 use native.Mathlib.Omega.{arith}
 use lib.ListN.{length}
 use Rattle.words.specs.Bytes.{put}
 use Rattle.memory_map.specs.Map.{InMap, cellOf}
 use Rattle.memory_map.specs.Map.Item.{node}
-use Rattle.memory_map.proofs.Laws.{nodes-small, cell-small, in-map-node}
+use Rattle.memory_map.proofs.Laws.{cell-small, in-map-node, child-node, index-small}
 use Rattle.cache.specs.Cache.{cellContent}
 use Rattle.cache.proofs.Laws.{cell-length}
 use Rattle.node.proofs.Laws.{cell-room}
 use Rattle.calls.specs.Path.{tagsFrom}
-use Rattle.format.proofs.Fronts.{lying, Tagged, child, tagged-none, tagged-next}
+use Rattle.format.proofs.Fronts.{lying, Tagged, tagged-none, tagged-next}
 use Rattle.format.proofs.put_node.Statement.{statement}
 use Rattle.format.proofs.put_node.Tie as tie
 
@@ -25,15 +25,12 @@ abbrev start : tie.After-node-cell Inv-loop μ-loop → tie.Start Inv-loop μ-lo
 start c = c .before .before .before
 
 few : (c : tie.After-node-cell Inv-loop μ-loop) → start c .args .i < 512
-few c =
-    let s = start c in
-    let up = s .args .l + 1 in
-    omega (arith, in-map-node (s .args .h) up (s .args .i) (s .pre .1) .1, nodes-small {h = s .args .h} up refl (s .pre .0 .flat))
+few c = let s = start c in index-small (s .args .h) (s .args .l + 1) (s .args .i) (s .pre .1) (s .pre .0 .flat)
 
 -- a child of the node
 inside : (c : tie.After-node-cell Inv-loop μ-loop) (j : ℕ) → j < 8 * start c .args .i + 8
     → InMap (start c .args .h) (node (start c .args .l) j)
-inside c = let s = start c in child (s .args .h) (s .args .l) (s .args .i) (s .pre .1)
+inside c = let s = start c in child-node (s .args .h) (s .args .l) (s .args .i) (s .pre .1)
 
 -- the node's cell, in the array as it is
 room : (c : tie.At-loop Inv-loop μ-loop) → 72 * c .before .node-cell .result + 72 ≤ length (c .loop .array)

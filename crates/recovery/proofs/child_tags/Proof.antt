@@ -1,13 +1,14 @@
 -- `recovery::child_tags` stores the tags of the eight children, one by one. Assumes nothing.
 use mathlib.Core.Path.{_≡_, sym, ap, _∙_}
-use Prim.Native.Nat.{ℕ, _+_, _-_, _*_, _≤_, _<_, zero-le}
+use Prim.Native.Nat.{_+_, _-_, _*_, _≤_, _<_, zero-le}
 use native.Mathlib.Omega.{arith}
 use lib.ListN.{length}
 use Rattle.memory_map.specs.Map.{InMap}
 use Rattle.memory_map.specs.Map.Item.{node}
+use Rattle.memory_map.proofs.Laws.{child-node, index-small}
 use Rattle.cache.specs.Cache.{current}
 use Rattle.node.proofs.Laws.{current-length}
-use Rattle.recovery.proofs.Nodes.{Tagged, child, index-small, tagged-none, tagged-next, tagged-all}
+use Rattle.recovery.proofs.Nodes.{Tagged, tagged-none, tagged-next, tagged-all}
 use Rattle.recovery.proofs.child_tags.Statement.{statement}
 use Rattle.recovery.proofs.child_tags.Tie as tie
 
@@ -29,7 +30,7 @@ inside : (c : tie.In-loop Inv-loop μ-loop)
     InMap (a .h) (node (a .l) (8 * a .i + c .before .loop .k))
 inside c =
     let s = start (c .before) in
-    child (s .args .h) (s .args .l) (s .args .i) (s .pre .1 .1 .0) (c .before .loop .k) (c .loop-test .taken)
+    child-node (s .args .h) (s .args .l) (s .args .i) (s .pre .1 .1 .0) _ (omega arith)
 
 loop-holds : tie.Need-loop-holds Inv-loop μ-loop
 loop-holds c =
@@ -72,7 +73,8 @@ loop-again c =
     let s = start at in (
       omega arith,
       tagged-next (s .args .keys .now) (s .args .l) _ (s .args .i) (s .args .out .now) (s .pre .1 .1 .1) (at .loop .inv .1)
-          (turn .loop-test .taken) (found .current .ensures) (tagged .node-tag .ensures) (stored .store64 .ensures) (stored .store64 .kept .0),
+          (turn .loop-test .taken) (found .current .ensures) (tagged .node-tag .ensures) (stored .store64 .ensures)
+          (stored .store64 .kept .0),
     )
 
 same-length : tie.Need-same-length Inv-loop μ-loop

@@ -1,5 +1,5 @@
 -- `recovery::put_block` meets its contract. Assumes nothing.
-use mathlib.Core.Path.{_≡_, ap, _∙_}
+use mathlib.Core.Path.{ap, _∙_}
 use mathlib.Core.List.{List}
 use Prim.Native.Nat.{ℕ, _+_, _*_}
 use native.Mathlib.Omega.{arith}
@@ -40,8 +40,9 @@ returns c =
     let stored = packed .before .before .before .before in
     let start = stored .before .before .before .before in
     let a = start .args in
+    let block = counterBlock (a .major) (a .minors .now) in
     packed .pack .ensures
-    ∙ ap (λ (x : List ℕ). put (set x (73 * a .s + 8) _) (73 * a .s + 9) (counterBlock (a .major) (a .minors .now))) (stored .store64 .ensures)
+    ∙ ap (λ (x : List ℕ). put (set x (73 * a .s + 8) _) (73 * a .s + 9) block) (stored .store64 .ensures)
     ∙ block-put (a .image .now) (a .s) (a .owner) _ (a .major) (a .minors .now) (start .pre .0 .0)
 
 pub put-block-spec : {M : Type 1} → statement M

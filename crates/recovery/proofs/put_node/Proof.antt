@@ -1,12 +1,13 @@
 -- `recovery::put_node` meets its contract. Assumes nothing.
-use mathlib.Core.Path.{_≡_, ap, _∙_}
+use mathlib.Core.Path.{ap, _∙_}
 use native.Mathlib.Omega.{arith}
 use borrow.Author.Needs.{needs}
 use lib.ListN.{length}
+use Rattle.memory_map.proofs.Laws.{index-small}
 use Rattle.slot_map.specs.Slots.{levelOf}
 use Rattle.cache.proofs.Laws.{slot-room}
 use Rattle.call_laws.proofs.Tags.{tags-length}
-use Rattle.recovery.proofs.Nodes.{level-some, level-below, index-small, node-put}
+use Rattle.recovery.proofs.Nodes.{level-some, level-below, node-put}
 use Rattle.recovery.proofs.put_node.Statement.{statement}
 use Rattle.recovery.proofs.put_node.Tie as tie
 
@@ -57,8 +58,8 @@ returns c =
     let put = c .before .before in
     let tags = put .before .before .before .before in
     let a = start (level tags) .args in
-    node-put (a .h) (a .keys .now) (a .array .now) (a .image .now) (a .s) (a .i) (level tags .level-of .ensures) (tags .child-tags .ensures)
-    (put .put-slot .ensures)
+    node-put (a .h) (a .keys .now) (a .array .now) (a .image .now) (a .s) (a .i) (level tags .level-of .ensures)
+    (tags .child-tags .ensures) (put .put-slot .ensures)
 
 pub put-node-spec : {M : Type 1} → statement M
 put-node-spec =

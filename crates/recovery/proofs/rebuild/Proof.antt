@@ -2,18 +2,16 @@
 use mathlib.Core.Path.{_≡_, refl, sym, ap, _∙_, subst}
 use mathlib.Core.List.{List}
 use Prim.Native.Nat.{ℕ}
-use native.Mathlib.Omega.{arith}
 use borrow.Author.Needs.{needs}
 use lib.ListN.{length, take, drop}
 use Rattle.words.proofs.Parts.{copy-all}
-use Rattle.memory_map.specs.Map.{arrayLength, slots}
-use Rattle.slot_map.specs.Slots.{cacheLength}
+use Rattle.memory_map.specs.Map.{slots}
 use Rattle.tag.specs.Tag.{nodeTag}
 use Rattle.control.specs.Control.{depth}
 use Rattle.cache.specs.Cache.{current}
 use Rattle.node.specs.Sized.{Sized}
 use Rattle.calls.specs.Call.{Module, buffers}
-use Rattle.calls.specs.Recovery.{Rebuilt, rebuildBlocks, rebuildNodes}
+use Rattle.calls.specs.Recovery.{rebuildBlocks, rebuildNodes}
 use Rattle.recovery.specs.Rebuild.{Placed, counted}
 use Rattle.recovery.specs.declared.Counters.{Counters}
 use Rattle.recovery.proofs.Ends.{ends-damaged, ends-differs, ends-done}
@@ -27,7 +25,8 @@ abbrev given : tie.After-depth → Module
 given c = let a = start c .args in buffers (a .array .now) (a .control .now) (a .cache .now)
 
 -- an image of the right length, at the depth that was read
-sized : (c : tie.After-depth) (i : List ℕ) → length i ≡ length (start c .args .image .now) → Sized (c .depth .result) (start c .args .array .now) i
+sized : (c : tie.After-depth) (i : List ℕ) → length i ≡ length (start c .args .image .now)
+    → Sized (c .depth .result) (start c .args .array .now) i
 sized c i e =
     let s = start c in
     let z = s .pre .0 .1 .1 .0 in
@@ -52,7 +51,8 @@ enum-told c = search needs
 -- what the counters are, at the control record's depth
 rebuilt-as : (c : tie.After-rebuild-counters) {r : Counters} → c .rebuild-counters .result ≡ r
     → let at = c .before .before in let a = start at .args in
-    counted r (c .rebuild-counters .last .1 .1 .1 .0) ≡ rebuildBlocks (depth (a .control .now)) (a .array .now) 0 (take 4 (a .owners)) (a .image .now) 0
+    counted r (c .rebuild-counters .last .1 .1 .1 .0)
+    ≡ rebuildBlocks (depth (a .control .now)) (a .array .now) 0 (take 4 (a .owners)) (a .image .now) 0
 rebuilt-as c e =
     let at = c .before .before in
     let a = start at .args in
@@ -78,11 +78,15 @@ rebuild-nodes-requires c κs =
     let at = found c .before .before in
     (start at .pre .0 .0, (sized at _ (found c .rebuild-counters .kept .1 .1 .1 .0), belong at))
 
+same-size : (c : tie.After-rebuild-nodes)
+    → length (c .rebuild-nodes .last .1 .1 .1 .1 .0) ≡ length (start (found (c .before) .before .before) .args .image .now)
+same-size c = c .rebuild-nodes .kept .1 .1 .1 .1 .0 ∙ found (c .before) .rebuild-counters .kept .1 .1 .1 .0
+
 top-tag-requires : tie.Need-top-tag-requires
 top-tag-requires c κs =
     let nodes = c .before .before .before in
     let at = found (nodes .before) .before .before in
-    (start at .pre .0 .0, sized at _ (nodes .rebuild-nodes .kept .1 .1 .1 .1 .0 ∙ found (nodes .before) .rebuild-counters .kept .1 .1 .1 .0))
+    (start at .pre .0 .0, sized at _ (same-size nodes))
 
 -- the nodes and their top, seen from the root
 abbrev filled : tie.After-root → tie.After-rebuild-nodes
@@ -108,7 +112,8 @@ tag-as : (c : tie.After-root)
 tag-as c =
     let a = start (read c) .args in
     c .before .top-tag .ensures
-    ∙ ap (λ (n : ℕ). nodeTag (a .keys .now) (current n (a .array .now) (filled c .rebuild-nodes .last .1 .1 .1 .1 .0) n 0) n 0) (read c .depth .ensures)
+    ∙ ap (λ (n : ℕ). nodeTag (a .keys .now) (current n (a .array .now) (filled c .rebuild-nodes .last .1 .1 .1 .1 .0) n 0) n 0)
+    (read c .depth .ensures)
 
 root-requires : tie.Need-root-requires
 root-requires c κs = search needs
@@ -121,7 +126,8 @@ unfolding counted
 returns-2 c =
     let at = c .before in
     let a = start (read at) .args in
-    ends-differs (a .keys .now) (a .stores) (given (read at)) _ (rebuilt-as (found (filled at .before)) (filled at .before .before .before .counters .given .1))
+    ends-differs (a .keys .now) (a .stores) (given (read at)) _
+    (rebuilt-as (found (filled at .before)) (filled at .before .before .before .counters .given .1))
     (nodes-as at) (tag-as at) (at .root .ensures) (c .if1 .taken)
 
 copy-requires : tie.Need-copy-requires
@@ -141,10 +147,10 @@ returns-3 c =
     let at = test .before in
     let s = start (read at) in
     let a = s .args in
-    ends-done (a .keys .now) (a .stores) (given (read at)) _ (rebuilt-as (found (filled at .before)) (filled at .before .before .before .counters .given .1))
+    ends-done (a .keys .now) (a .stores) (given (read at)) _
+    (rebuilt-as (found (filled at .before)) (filled at .before .before .before .counters .given .1))
     (nodes-as at) (tag-as at) (at .root .ensures) (test .if1 .left)
-    (copied .copy .ensures ∙ copy-all _ (a .cache .now) _ refl
-    (filled at .rebuild-nodes .kept .1 .1 .1 .1 .0 ∙ found (filled at .before) .rebuild-counters .kept .1 .1 .1 .0 ∙ sym (s .pre .0 .1 .1 .1)))
+    (copied .copy .ensures ∙ copy-all _ (a .cache .now) _ refl (same-size (filled at) ∙ sym (s .pre .0 .1 .1 .1)))
 
 pub rebuild-spec : {M : Type 1} → statement M
 rebuild-spec =

@@ -5,10 +5,11 @@ use mathlib.Core.List.{List}
 use Prim.Native.Nat.{ℕ, _+_, _-_, _*_, _≤_, _<_, zero-le}
 use native.Mathlib.Omega.{arith}
 use borrow.Author.Needs.{needs}
-use lib.ListN.{length, getD, take}
+use lib.ListN.{length, getD}
 use Rattle.words.proofs.Digits.{Below}
 use Rattle.memory_map.specs.Map.{InMap, slots}
 use Rattle.memory_map.specs.Map.Item.{node}
+use Rattle.memory_map.proofs.Laws.{index-small}
 use Rattle.slot_map.proofs.Laws.{level-low}
 use Rattle.counter.proofs.Laws.{length-minors, below-minors}
 use Rattle.cache.specs.Cache.{cellContent}
@@ -17,8 +18,8 @@ use Rattle.node.proofs.Laws.{cell-room}
 use Rattle.calls.specs.Recovery.{rebuilt}
 use Rattle.recovery.specs.Rebuild.{counted}
 use Rattle.recovery.proofs.Forward.{Forwarding, forwarding-none, forwarding-next, forwarded-ge, forwarded-le}
-use Rattle.recovery.proofs.Blocks.{Rebuilding, rebuilding-empty, rebuilding-fails, rebuilding-next, rebuilding-same, blocks-end, placed-node, page-lines}
-use Rattle.recovery.proofs.Nodes.{index-small}
+use Rattle.recovery.proofs.Blocks.{Rebuilding, rebuilding-empty, rebuilding-fails, rebuilding-next, rebuilding-same}
+use Rattle.recovery.proofs.Blocks.{blocks-end, placed-node, page-lines}
 use Rattle.recovery.proofs.rebuild_counters.Statement.{statement}
 use Rattle.recovery.proofs.rebuild_counters.Tie as tie
 
@@ -53,8 +54,9 @@ inside : (c : tie.Then1 Inv-loop μ-loop Inv-slots μ-slots)
 inside c =
     let at = c .before .before in
     let s = start at in
-    subst (λ (l : ℕ). InMap (s .args .h) (node l (getD (s .args .t3) (at .slots .s) 0 - 1))) (level-low (at .slots .s) (c .before .slots-test .taken))
-    (placed-node (s .args .h) (s .args .t3) (s .pre .1) (at .slots .s) (getD (s .args .t3) (at .slots .s) 0) (within at (c .before .slots-test .taken)) refl (c .if1 .taken))
+    let low = c .before .slots-test .taken in
+    subst (λ (l : ℕ). InMap (s .args .h) (node l (getD (s .args .t3) (at .slots .s) 0 - 1))) (level-low (at .slots .s) low)
+    (placed-node (s .args .h) (s .args .t3) (s .pre .1) (at .slots .s) _ (within at low) refl (c .if1 .taken))
 
 slots-holds : tie.Need-slots-holds Inv-loop μ-loop Inv-slots μ-slots
 slots-holds c =
@@ -131,8 +133,8 @@ forwarded-requires c κs = let at = c .before .before in at .loop .inv .1 .few .
 
 -- a line whose minor may be brought forward
 steps : (c : tie.Else2 Inv-loop μ-loop Inv-slots μ-slots)
-    → let made = c .before in let at = made .before .before .before in
-    (getD (at .loop .minors) (at .loop .j) 0 ≤ made .forwarded .result) × (made .forwarded .result ≤ getD (at .loop .minors) (at .loop .j) 0 + 3)
+    → let made = c .before in let at = made .before .before .before in let old = getD (at .loop .minors) (at .loop .j) 0 in
+    (old ≤ made .forwarded .result) × (made .forwarded .result ≤ old + 3)
 steps c =
     let made = c .before in
     let turn = made .before .before in
@@ -178,7 +180,8 @@ put-block-requires c κs =
     let at = c .before .before .before .before in
     let out = slot at .before .before in
     let f = at .loop .inv .1 in
-    ((slot-room (start out .args .h) (out .slots .s) (out .slots .image) (out .slots .inv .full) (within out (slot at .before .slots-test .taken)), f .size), f .few .at)
+    let low = within out (slot at .before .slots-test .taken) in
+    ((slot-room (start out .args .h) (out .slots .s) (out .slots .image) (out .slots .inv .full) low, f .size), f .few .at)
 
 add-s : tie.Need-add-s Inv-loop μ-loop Inv-slots μ-slots
 add-s c = omega arith
@@ -193,8 +196,8 @@ slots-again c =
     let p = c .before .slots-test .taken in
     ⊎-elim
     (λ w. rebuilding-same (a .h) (a .array .now) (a .t3)
-    (rebuilding-next (a .h) (a .array .now) (a .t3) (ten at) (at .slots .inv) p (w .0 .taken) (w .1 .ensures) (w .2 .ensures) (w .4 .ensures)
-    (w .6 .inv .1) (w .6 .inv .0) (w .7 .left) (w .9 .ensures) (w .11 .ensures) (w .11 .kept .0)) (w .14) (w .15))
+    (rebuilding-next (a .h) (a .array .now) (a .t3) (ten at) (at .slots .inv) p (w .0 .taken) (w .1 .ensures) (w .2 .ensures)
+    (w .4 .ensures) (w .6 .inv .1) (w .6 .inv .0) (w .7 .left) (w .9 .ensures) (w .11 .ensures) (w .11 .kept .0)) (w .14) (w .15))
     (λ w. rebuilding-same (a .h) (a .array .now) (a .t3)
     (rebuilding-empty (a .h) (a .array .now) (a .t3) (ten at) (at .slots .inv) p (w .0 .left)) (w .1) (w .2))
     (c .if1 .came)
@@ -208,8 +211,8 @@ returns c =
     let at = c .before .before in
     let a = start at .args in
     ⊎-elim (λ w. absurd (omega (arith, w .0 .left)))
-    (λ w. rebuilding-fails (a .h) (a .array .now) (a .t3) (ten at) (at .slots .inv) (w .0 .taken) (w .1 .taken) (w .2 .ensures) (w .3 .ensures)
-    (w .5 .ensures) (w .7 .inv .1) (w .8 .taken) (w .10 .ensures) (w .11 .taken))
+    (λ w. rebuilding-fails (a .h) (a .array .now) (a .t3) (ten at) (at .slots .inv) (w .0 .taken) (w .1 .taken) (w .2 .ensures)
+    (w .3 .ensures) (w .5 .ensures) (w .7 .inv .1) (w .8 .taken) (w .10 .ensures) (w .11 .taken))
     (c .before .slots-test .came)
 
 same-length-2 : tie.Need-same-length-2 Inv-loop μ-loop Inv-slots μ-slots
@@ -222,7 +225,8 @@ returns-2 c =
     let a = start at .args in
     ⊎-elim
     (λ w. ap (λ (n : ℕ). rebuilt (at .slots .image) n) (w .1)
-    ∙ sym (at .slots .inv .rest ∙ blocks-end (a .h) (a .array .now) (a .t3) (at .slots .s) (w .0 .left) (at .slots .image) (at .slots .sum)))
+    ∙ sym (at .slots .inv .rest
+    ∙ blocks-end (a .h) (a .array .now) (a .t3) (at .slots .s) (w .0 .left) (at .slots .image) (at .slots .sum)))
     (λ w. absurd (omega (arith, w .0 .taken)))
     (c .before .slots-test .came)
 

@@ -1,11 +1,11 @@
 -- `recovery::rebuild_nodes` goes through the slots of the nodes. Assumes nothing.
 use mathlib.Core.Path.{_≡_, refl, sym, ap, _∙_}
 use mathlib.Core.Logic.{⊎-elim}
-use Prim.Native.Nat.{ℕ, _+_, _-_, _≤_, _<_}
+use Prim.Native.Nat.{ℕ, _-_, _≤_, _<_}
 use native.Mathlib.Nat.{le-refl}
 use native.Mathlib.Omega.{arith}
 use borrow.Author.Needs.{needs}
-use lib.ListN.{length, getD}
+use lib.ListN.{length}
 use Rattle.memory_map.specs.Map.{slots}
 use Rattle.memory_map.proofs.Laws.{slots-small}
 use Rattle.recovery.proofs.Blocks.{placed-node, filled}
@@ -49,11 +49,12 @@ put-node-requires c κs =
     let at = test .before .before in
     let s = start (at .before) in
     let z = s .pre .1 .0 in
-    let within : at .loop .s < slots (s .args .h) = omega (arith, at .before .slots .ensures) in (
+    let within : at .loop .s < slots (s .args .h) = omega (arith, at .before .slots .ensures) in
+    let inside = placed-node (s .args .h) (s .args .t4) (s .pre .1 .1) (at .loop .s) _ within refl (test .if1 .taken) in (
       s .pre .0,
       (
         record { deep = z .deep; flat = z .flat; array = z .array; cache = at .loop .inv .full },
-        (at .loop .inv .least, (within, placed-node (s .args .h) (s .args .t4) (s .pre .1 .1) (at .loop .s) _ within refl (test .if1 .taken))),
+        (at .loop .inv .least, (within, inside)),
       ),
     )
 
@@ -71,7 +72,8 @@ loop-again c =
     ⊎-elim
     (λ w. renewing-next (a .h) (a .keys .now) (a .array .now) (a .t4) (at .before .slots .result) (fits (at .before)) (at .loop .inv) p
     (sym (filled _ (w .0 .taken))) (w .5 ∙ w .2 .ensures) (ap length (w .5) ∙ w .2 .kept .1 .1 .1 .1 .1 .0 ∙ at .loop .inv .full))
-    (λ w. renewing-empty (a .h) (a .keys .now) (a .array .now) (a .t4) (at .before .slots .result) (fits (at .before)) (at .loop .inv) p (w .0 .left) (w .1))
+    (λ w. renewing-empty (a .h) (a .keys .now) (a .array .now) (a .t4) (at .before .slots .result) (fits (at .before)) (at .loop .inv) p
+    (w .0 .left) (w .1))
     (c .if1 .came)
 
 same-length : tie.Need-same-length Inv-loop μ-loop

@@ -1,12 +1,10 @@
 -- `recovery::recover` meets its contract. Assumes nothing.
 use mathlib.Core.Path.{_≡_, sym, ap, _∙_, subst}
 use mathlib.Core.Logic.{⊎-elim}
-use Prim.Native.Nat.{ℕ, _+_, _/_, _≤_}
+use Prim.Native.Nat.{ℕ, _≤_}
 use native.Mathlib.Omega.{arith}
 use borrow.Author.Needs.{needs}
 use lib.ListN.{length}
-use Rattle.memory_map.specs.Map.{arrayLength}
-use Rattle.slot_map.specs.Slots.{cacheLength}
 use Rattle.control.specs.Control.{depth}
 use Rattle.control.proofs.Laws.{valid-parts}
 use Rattle.journal.specs.Journal.{Media, pendingStores}
@@ -40,7 +38,7 @@ same-length-3 c = search needs
 returns : tie.Need-returns
 returns c =
     let a = start (c .before) .args in
-    ends-refused (a .keys .now) (a .allowance) (a .array .now) (a .control .now) (a .cache .now) (c .before .opening .result) (c .before .opening .ensures)
+    ends-refused (a .keys .now) (a .allowance) (given (c .before)) (c .before .opening .result) (c .before .opening .ensures)
     (c .if1 .taken)
 
 -- past the refusals
@@ -101,8 +99,8 @@ returns-2 c =
     let at = settled (some .before) in
     let test = tested at in
     let a = start (test .before) .args in
-    let want = wanted-some (a .keys .now) (a .allowance) (a .array .now) (a .control .now) (a .cache .now) (counted at .count .ensures) (some .if2 .taken) in
-    ends-cut (a .keys .now) (a .allowance) (a .array .now) (a .control .now) (a .cache .now) (sym (test .if1 .left) ∙ test .before .opening .ensures)
+    let want = wanted-some (a .control .now) (counted at .count .ensures) (some .if2 .taken) in
+    ends-cut (a .keys .now) (a .allowance) (given (test .before)) (sym (test .if1 .left) ∙ test .before .opening .ensures)
     (at .finish .ensures) (omega (arith, want, c .if3 .taken))
 
 -- they are all made
@@ -114,8 +112,8 @@ all-made c =
     let a = start (tested at .before) .args in
     let count = counted at .count .ensures in
     ⊎-elim
-    (λ w. omega (arith, w .1 .left, wanted-some (a .keys .now) (a .allowance) (a .array .now) (a .control .now) (a .cache .now) count (w .0 .taken)))
-    (λ w. omega (arith, wanted-none (a .keys .now) (a .allowance) (a .array .now) (a .control .now) (a .cache .now) count (w .left)))
+    (λ w. omega (arith, w .1 .left, wanted-some (a .control .now) count (w .0 .taken)))
+    (λ w. omega (arith, wanted-none (a .control .now) count (w .left)))
     (c .if2 .came)
 
 -- the depth is as it was
@@ -123,7 +121,8 @@ same-depth : (c : tie.After-finish) → depth (c .finish .last .1 .0) ≡ depth 
 same-depth c =
     let test = tested c in
     let a = start (test .before) .args in
-    ap (λ (m : Media). depth (m .control)) (c .finish .ensures .left) ∙ made-depth (a .keys .now) (given (test .before)) (bytes test) (opened test) (a .allowance)
+    ap (λ (m : Media). depth (m .control)) (c .finish .ensures .left)
+    ∙ made-depth (a .keys .now) (given (test .before)) (bytes test) (opened test) (a .allowance)
 
 recover-media-requires : tie.Need-recover-media-requires
 recover-media-requires c κs =
@@ -157,7 +156,7 @@ returns-3 c =
     let test = tested at in
     let a = start (test .before) .args in
     media .recover-media .ensures
-    ∙ ends-media (a .keys .now) (a .allowance) (a .array .now) (a .control .now) (a .cache .now) (sym (test .if1 .left) ∙ test .before .opening .ensures)
+    ∙ ends-media (a .keys .now) (a .allowance) (given (test .before)) (sym (test .if1 .left) ∙ test .before .opening .ensures)
     (at .finish .ensures) (all-made join)
 
 pub recover-spec : {M : Type 1} → statement M

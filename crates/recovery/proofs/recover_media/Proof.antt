@@ -1,6 +1,5 @@
 -- `recovery::recover_media` meets its contract. Assumes nothing.
 use mathlib.Core.Path.{_≡_, refl, sym, ap, _∙_, subst}
-use mathlib.Core.List.{List}
 use Prim.Native.Nat.{ℕ, _-_, _≤_}
 use native.Mathlib.Omega.{arith}
 use borrow.Author.Needs.{needs}
@@ -40,13 +39,15 @@ listed : (c : tie.After-shadow-owners)
     take (slots (depth (a .control .now))) (c .shadow-owners .result) ≡ shadowOwners (depth (a .control .now)) (a .array .now)
 listed c =
     let a = start (c .before) .args in
-    subst (λ (n : ℕ). take (slots n) (c .shadow-owners .result) ≡ shadowOwners n (a .array .now)) (c .before .depth .ensures) (c .shadow-owners .ensures)
+    subst (λ (n : ℕ). take (slots n) (c .shadow-owners .result) ≡ shadowOwners n (a .array .now)) (c .before .depth .ensures)
+    (c .shadow-owners .ensures)
 
 searched : (c : tie.After-bad-slot)
     → let h = depth (start (c .before .before) .args .control .now) in
     c .bad-slot .result ≡ badSlot h (take (slots h) (c .before .shadow-owners .result))
 searched c =
-    c .bad-slot .ensures ∙ ap (λ (n : ℕ). badSlot n (take (slots n) (c .before .shadow-owners .result))) (c .before .before .depth .ensures)
+    c .bad-slot .ensures
+    ∙ ap (λ (n : ℕ). badSlot n (take (slots n) (c .before .shadow-owners .result))) (c .before .before .depth .ensures)
 
 enum-known-bad : tie.Need-enum-known-bad
 enum-known-bad c = search needs
@@ -56,7 +57,8 @@ returns c =
     let found = c .before .before .before in
     let at = found .before .before in
     let a = start at .args in
-    ends-bad (a .keys .now) (a .stores) (given at) (found .before .shadow-owners .result) (listed (found .before)) (searched found) (c .before .bad .given .1)
+    ends-bad (a .keys .now) (a .stores) (given at) (found .before .shadow-owners .result) (listed (found .before)) (searched found)
+    (c .before .bad .given .1)
 
 enum-told : tie.Need-enum-told
 enum-told c = search needs

@@ -1,21 +1,21 @@
 -- `recovery::top_tag` meets its contract. Assumes nothing.
-use mathlib.Core.Path.{_≡_, ap, _∙_}
+use mathlib.Core.Path.{ap, _∙_}
 use mathlib.Core.List.{List}
 use Prim.Native.Nat.{ℕ}
 use lib.ListN.{length}
+use Rattle.memory_map.proofs.Laws.{top-node}
 use Rattle.tag.specs.Tag.{nodeTag}
 use Rattle.node.proofs.Laws.{current-length}
-use Rattle.recovery.proofs.Nodes.{top}
 use Rattle.recovery.proofs.top_tag.Statement.{statement}
 use Rattle.recovery.proofs.top_tag.Tie as tie
 
 current-requires : tie.Need-current-requires
-current-requires c κs = let s = c .before .before .before in (s .pre .1, top (s .args .h))
+current-requires c κs = let s = c .before .before .before in (s .pre .1, top-node (s .args .h))
 
 node-tag-requires : tie.Need-node-tag-requires
 node-tag-requires c κs =
     let s = c .before .before .before .before in
-    (s .pre .0, ap length (c .current .ensures) ∙ current-length (s .args .h) 0 (s .pre .1) (top (s .args .h)))
+    (s .pre .0, ap length (c .current .ensures) ∙ current-length (s .args .h) 0 (s .pre .1) (top-node (s .args .h)))
 
 returns : tie.Need-returns
 returns c =
