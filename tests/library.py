@@ -7,6 +7,7 @@ header's sequence, numbers as int and slices as bytes, and give the code and the
 import ctypes
 import os
 import sys
+from concurrent.futures import ProcessPoolExecutor
 
 import model
 
@@ -23,6 +24,17 @@ SLICES = {name: tuple(part for part in parts if part not in COUNTS) for name, pa
 DONE, BLANK, CUT, REFUSED = 0, 1, 2, 100
 NUMBERS = b"\xd3" * 24
 GUARD = bytes(range(0x80, 0xA0))
+
+
+def keep_memory():
+    """Has malloc keep what is freed: arrays of megabytes come and go with every call."""
+    trim_threshold, mmap_threshold = -1, -3
+    libc = ctypes.CDLL(None)
+    for parameter in (trim_threshold, mmap_threshold):
+        libc.mallopt(parameter, 1 << 30)
+
+
+keep_memory()
 
 
 class Library:
@@ -191,3 +203,9 @@ class Tally:
     def finish(self):
         print("%s: %d passed, %d failed" % (self.title, self.passed, self.failed))
         sys.exit(1 if self.failed else 0)
+
+
+def in_parallel(work, jobs):
+    """What work gives for each job, in their sequence, from as many processes as NV_JOBS or the machine says."""
+    with ProcessPoolExecutor(int(os.environ.get("NV_JOBS", os.cpu_count()))) as pool:
+        yield from pool.map(work, jobs)

@@ -242,3 +242,25 @@ def misshapen(rng, arguments):
         place = rng.choice(places)
         arguments[place] = resized(rng, arguments[place])
     return tuple(arguments)
+
+
+# ---- Settled states: a sound tree in the array, nothing cached ----
+
+@lru_cache(maxsize=64)
+def settled(depth, lines=()):
+    """The module with a zero cache in whose array each (line, minor, text) stands written."""
+    counts = [[0] * 64 for _ in range(model.pages(depth))]
+    for line, minor, _ in lines:
+        counts[line // 64][line % 64] = minor
+    blocks = [model.counter_block(0, minors) for minors in counts]
+    tree = model.tree_over(KEYS, depth, blocks)
+    array = bytearray(model.array_length(depth))
+    for level, contents in enumerate(tree):
+        for index, content in enumerate(contents):
+            at = CELL * model.node_cell(depth, level, index)
+            array[at:at + CONTENT] = content
+    for line, minor, text in lines:
+        content = model.xor(text, model.pad(KEYS, line, 0, minor))
+        array[CELL * line:CELL * line + CELL] = content + model.data_side(KEYS, content, line, 0, minor)
+    root = model.node_tag(KEYS, tree[depth][0], depth, 0)
+    return formatted(depth)._replace(array=bytes(array), control=patched(formatted(depth).control, 7, root))

@@ -3,15 +3,13 @@
 States are real (reached by calls from a format, with cuts), damaged, and arbitrary. An argument is another seed.
 """
 
-import os
 import random
 import sys
 from collections import Counter
-from concurrent.futures import ProcessPoolExecutor
 
 import model
 import states
-from library import Library, SLICES, Tally
+from library import Library, SLICES, Tally, in_parallel, numbers_of
 from model import Module
 
 CALLS = {1: 200000, 2: 20000, 3: 4000}
@@ -44,6 +42,7 @@ class Walk:
         self.tally = Tally("library")
         self.reached = Counter()
         self.allowances = set()
+        self.stores = set()
         self.start_anew()
         self.strange = states.arbitrary(self.rng, depth)
 
@@ -71,14 +70,16 @@ class Walk:
         if not shaped:
             arguments = states.misshapen(rng, arguments)
         code, slices = self.tally.compare(self.library, name, arguments)
-        self.note(name, arguments, code)
+        self.note(name, arguments, code, slices)
         if shaped and style >= 40:
             self.module = self.next_module(name, code, module_after(name, slices, module))
 
-    def note(self, name, arguments, code):
+    def note(self, name, arguments, code, slices):
         self.reached[name, 7 if code == 107 and len(arguments[-1]) != 24 else code, len(arguments[-1]) == 24] += 1
         if name in ("read", "write", "recover"):
             self.allowances.add((name, arguments[-2]))
+            if code < 2:
+                self.stores.add(numbers_of(slices)[0])
 
     def next_module(self, name, code, module):
         """The state for the next call: after a cut, or when the module asks for it, mostly a recovered one."""
@@ -103,22 +104,27 @@ def part(job):
     walk = Walk(depth, seed)
     for _ in range(calls):
         walk.one()
-    return depth, walk.tally.passed, walk.tally.failed, walk.reached, walk.allowances
+    return depth, walk.tally.passed, walk.tally.failed, walk.reached, walk.allowances, walk.stores
 
 
-def check_reached(tally, depth, reached, allowances):
+def check_reached(tally, depth, reached, allowances, stores):
     """Says which refusals each call reached, and holds that to the paper's lists."""
     for name in SLICES:
-        got = sorted(code - 100 for call, code, shaped in reached if call == name and shaped and code > 100)
-        tally.check(got == sorted(REFUSALS[name]), "depth %d: nv_%s reached refusals %s" % (depth, name, got))
+        got = {code - 100 for call, code, shaped in reached if call == name and shaped and code > 100}
         answers = sorted(code for call, code, shaped in reached if call == name and shaped and code < 100)
-        tally.check(answers == list(ANSWERS[name]), "depth %d: nv_%s reached answers %s" % (depth, name, answers))
+        missing = [number for number in REFUSALS[name] if number not in got]
+        tally.check(got == set(REFUSALS[name]), "depth %d: nv_%s gave refusals %s" % (depth, name, sorted(got)))
+        tally.check(answers == list(ANSWERS[name]), "depth %d: nv_%s gave codes %s" % (depth, name, answers))
         tally.check(reached[name, 7, False] > 0, "depth %d: nv_%s with other numbers" % (depth, name))
-        print("library: depth %d: nv_%s: refusals %s, all of the paper's, and 7 for the numbers; codes %s" % (
-            depth, name, " ".join(map(str, REFUSALS[name])), " ".join(map(str, answers))))
+        print("library: depth %d: nv_%s: codes %s; refusals %s: %s" % (
+            depth, name, " ".join(map(str, answers)), " ".join(str(n) for n in REFUSALS[name] if n in got),
+            "missing %s" % missing if missing else "all that the paper lists"))
     for name in ("read", "write", "recover"):
         missing = [a for a in states.ALLOWANCES if (name, a) not in allowances]
         tally.check(not missing, "depth %d: nv_%s not tried with allowances %s" % (depth, name, missing))
+    longest = 2 * (2 * depth + 2) + 3
+    tally.check(max(stores) == longest, "depth %d: at most %d stores, %d wanted" % (depth, max(stores), longest))
+    print("library: depth %d: calls with %d different numbers of stores, up to %d" % (depth, len(stores), max(stores)))
 
 
 def main():
@@ -128,14 +134,15 @@ def main():
             for depth in states.DEPTHS for i in range(PARTS[depth])]
     reached = {depth: Counter() for depth in states.DEPTHS}
     allowances = {depth: set() for depth in states.DEPTHS}
-    with ProcessPoolExecutor(int(os.environ.get("NV_JOBS", os.cpu_count()))) as pool:
-        for depth, passed, failed, codes, tried in pool.map(part, jobs):
-            tally.add(passed, failed)
-            reached[depth] += codes
-            allowances[depth] |= tried
+    stores = {depth: set() for depth in states.DEPTHS}
+    for depth, passed, failed, codes, tried, made in in_parallel(part, jobs):
+        tally.add(passed, failed)
+        reached[depth] += codes
+        allowances[depth] |= tried
+        stores[depth] |= made
     for depth in states.DEPTHS:
         print("library: depth %d: %d calls held to the model" % (depth, sum(reached[depth].values())))
-        check_reached(tally, depth, reached[depth], allowances[depth])
+        check_reached(tally, depth, reached[depth], allowances[depth], stores[depth])
     tally.finish()
 
 
