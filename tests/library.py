@@ -110,6 +110,73 @@ def image_of(slices):
     return b"".join(pieces)
 
 
+class Session:
+    """A module that stays in place from call to call, with its own output, list and numbers, all between guards."""
+
+    PARTS = ("keys", "control", "array", "cache", "out", "text", "list", "numbers")
+
+    def __init__(self, library, depth, keys):
+        self.functions = library.functions
+        self.depth = depth
+        self.lengths = {"keys": len(keys), "control": model.CONTROL_LENGTH, "array": model.array_length(depth),
+                        "cache": model.cache_length(depth), "out": 64, "text": 64, "list": 32, "numbers": 24}
+        size = sum(self.lengths.values()) + (len(self.PARTS) + 1) * len(GUARD)
+        self.room = ctypes.create_string_buffer(image_of([bytes(self.lengths[part]) for part in self.PARTS]), size)
+        self.at = {}
+        at = ctypes.addressof(self.room)
+        for part in self.PARTS:
+            at += len(GUARD)
+            self.at[part] = at
+            at += self.lengths[part]
+        self.put("keys", keys)
+        self.tail = model.CELL * model.lines(depth)
+
+    def put(self, part, data, offset=0):
+        assert offset + len(data) <= self.lengths[part]
+        ctypes.memmove(self.at[part] + offset, data, len(data))
+
+    def get(self, part, offset=0):
+        return ctypes.string_at(self.at[part] + offset, self.lengths[part] - offset)
+
+    def module(self):
+        return model.Module(self.get("array"), self.get("control"), self.get("cache"))
+
+    def load(self, module):
+        for part, data in zip(("array", "control", "cache"), module):
+            assert len(data) == self.lengths[part]
+            self.put(part, data)
+
+    def keep_all_but_data(self):
+        """Everything that a read may change of the module, and a way back to it."""
+        return self.get("array", self.tail), self.get("control"), self.get("cache")
+
+    def restore(self, kept):
+        self.put("array", kept[0], self.tail)
+        self.put("control", kept[1])
+        self.put("cache", kept[2])
+
+    def guards_hold(self):
+        return self.room.raw == image_of([self.get(part) for part in self.PARTS])
+
+    def make(self, name, **counts):
+        """Makes a call; gives its code, the stores made, and the two further numbers."""
+        passed = []
+        for part in SEQUENCES[name]:
+            passed += (counts[part],) if part in COUNTS else (self.at[part], self.lengths[part])
+        code = self.functions[name](*passed)
+        return (code,) + tuple(model.number_at(self.get("numbers"), at) for at in (0, 8, 16))
+
+    def read(self, line, allowance=model.UNLIMITED):
+        return self.make("read", line=line, allowance=allowance)
+
+    def write(self, line, text, allowance=model.UNLIMITED):
+        self.put("text", text)
+        return self.make("write", line=line, allowance=allowance)
+
+    def recover(self, allowance=model.UNLIMITED):
+        return self.make("recover", allowance=allowance)
+
+
 # ---- The same calls by the model ----
 
 def by_model_format(depth, keys, control, array, cache, numbers):
