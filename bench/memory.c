@@ -79,9 +79,10 @@ static void cipher(const module *m, uint64_t line, const uint8_t *block, uint32_
 #ifdef SODIUM
     crypto_stream_chacha20_ietf_xor_ic(out, in, CONTENT, nonce, (uint32_t)line, m->keys);
 #else
-    plain_chacha20_block(m->keys, (uint32_t)line, nonce, out);
-    for (int i = 0; i < CONTENT; i++)
-        out[i] ^= in[i];
+    uint8_t pad[CONTENT];
+    plain_chacha20_block(m->keys, (uint32_t)line, nonce, pad);
+    for (int i = 0; i < CONTENT; i += 8)
+        put64(out + i, get64(in + i) ^ get64(pad + i));
 #endif
 }
 
@@ -400,14 +401,11 @@ uint32_t NAME(read)(const uint8_t *keys, size_t keys_len, uint8_t *control, size
     return answer(numbers, minor ? NV_DONE : NV_BLANK, stores, 0, 0);
 }
 
-// The tags of the page's path with one minor renewed, level by level; the last is the new root.
-static void renew(const module *m, uint64_t line, const path *p, uint32_t minor, uint64_t tags[LEVELS])
+// The tags of the page's path over a renewed counter block, level by level; the last is the new root.
+static void renew(const module *m, uint64_t page, const path *p, uint8_t block[80], uint64_t tags[LEVELS])
 {
     uint8_t message[80];
-    uint64_t page = line / 64;
-    memcpy(message, p->content[0], CONTENT);
-    set_minor(message, line % 64, minor);
-    tags[0] = tag_in(m, message, 0, page);
+    tags[0] = tag_in(m, block, 0, page);
     for (unsigned l = 1; l <= m->depth; l++) {
         memcpy(message, p->content[l], CONTENT);
         put64(message + 8 * (page >> 3 * (l - 1) & 7), tags[l - 1]);
@@ -415,13 +413,12 @@ static void renew(const module *m, uint64_t line, const path *p, uint32_t minor,
     }
 }
 
-static unsigned stage_block(const module *m, uint64_t line, const uint8_t *block, uint32_t minor, unsigned j, uint64_t allowance)
+static unsigned stage_block(const module *m, uint64_t page, const uint8_t *block, unsigned j, uint64_t allowance)
 {
     uint8_t *at = queue_place(m, j);
     if (j < allowance) {
-        put64(at, m->map->node[0] + line / 64);
+        put64(at, m->map->node[0] + page);
         memcpy(at + 8, block, CONTENT);
-        set_minor(at + 8, line % 64, minor);
         memset(at + 8 + CONTENT, 0, 8);
         ordered();
     }
@@ -461,16 +458,19 @@ uint32_t NAME(write)(const uint8_t *keys, size_t keys_len, uint8_t *control, siz
     uint32_t minor = minor_of(p.content[0], line % 64) + 1;
     if (minor > MINOR_MAX)
         return refuse(numbers, NV_WORN);
-    renew(&m, line, &p, minor, tags);
+    uint8_t block[80]; // the renewed counter block, with room for its tag's level and index
+    memcpy(block, p.content[0], CONTENT);
+    set_minor(block, line % 64, minor);
+    renew(&m, page, &p, block, tags);
     unsigned count = stage_path(&m, page, &p, allowance);
     if (minor % STOP_LOSS == 0)
-        count = stage_block(&m, line, p.content[0], minor, count, allowance);
-    count = stage_data(&m, line, p.content[0], minor, text, count, allowance);
+        count = stage_block(&m, page, block, count, allowance);
+    count = stage_data(&m, line, block, minor, text, count, allowance);
     uint64_t stores = run_batch(&m, count, tags[m.depth], allowance);
     if (stores < stores_needed(count))
         return answer(numbers, NV_CUT, stores, 0, 0);
     load_slots(page, &p, m.depth);
-    set_minor(p.slot[0] + CONTENT_AT, line % 64, minor);
+    memcpy(p.slot[0] + CONTENT_AT, block, CONTENT);
     p.slot[0][DIRTY_AT] = minor % STOP_LOSS != 0;
     for (unsigned l = 1; l <= m.depth; l++) {
         put64(p.slot[l] + CONTENT_AT + 8 * (page >> 3 * (l - 1) & 7), tags[l - 1]);
