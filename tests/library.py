@@ -98,6 +98,21 @@ class Library:
             raise AssertionError("nv_%s wrote outside its slices" % name)
         return code, slices
 
+    def call_with_null(self, name, absent, arguments):
+        """Makes a call in which one argument, or if None every slice, is a null pointer with length 0; gives its code
+        and the other slices."""
+        passed = []
+        rooms = []
+        for place, argument in enumerate(arguments):
+            if isinstance(argument, int):
+                passed.append(argument)
+            elif place == absent or absent is None:
+                passed += (None, 0)
+            else:
+                rooms.append(ctypes.create_string_buffer(argument, len(argument)))
+                passed += (ctypes.addressof(rooms[-1]), len(argument))
+        return self.functions[name](*passed), [room.raw for room in rooms]
+
     def agrees(self, name, arguments, code, slices):
         """Whether a call gives this code and these slices, every byte of them, and leaves the guards."""
         return self.image_after(name, arguments) == (code, image_of(slices))
