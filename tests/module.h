@@ -102,13 +102,14 @@ static inline uint32_t call_dirty_pages(const module *m)
 // ---- States and the call that each is for ----
 
 enum scenario {
-    CACHED_READ, BLANK_READ, EVICTING_READ, CACHED_WRITE, STOP_LOSS_WRITE, EVICTING_WRITE, FULL_WRITE, IDLE_RECOVERY,
-    PENDING_RECOVERY, FORMAT, DIRTY_PAGES, SCENARIOS,
+    CACHED_READ, BLANK_READ, FIRST_READ, EVICTING_READ, CACHED_WRITE, STOP_LOSS_WRITE, EVICTING_WRITE, FULL_WRITE,
+    IDLE_RECOVERY, SMALL_RECOVERY, FULL_RECOVERY, FORMAT, DIRTY_PAGES, SCENARIOS,
 };
 
 static const char *const scenario_names[SCENARIOS] = {
-    "read of a cached line", "blank read", "read with eviction", "write to a cached line", "stop-loss write", "write with eviction",
-    "write, full batch", "recovery, full shadow", "recovery, full batch", "format", "list of dirty pages",
+    "read of a cached line", "blank read", "blank read, empty cache", "read with eviction", "write to a cached line",
+    "stop-loss write", "write with eviction", "write, full batch", "recovery, full shadow", "recovery, one pending",
+    "recovery, full batch", "format", "list of dirty pages",
 };
 
 enum { NEAR = 5 };
@@ -147,14 +148,14 @@ static inline void fill_slots(const module *m)
 // The line that a scenario's call reads or writes.
 static inline uint64_t scenario_line(enum scenario s, unsigned depth)
 {
-    return s == EVICTING_READ || s == EVICTING_WRITE || s == FULL_WRITE || s == PENDING_RECOVERY ? far_line(depth) : NEAR;
+    return s == EVICTING_READ || s == EVICTING_WRITE || s == FULL_WRITE || s == FULL_RECOVERY ? far_line(depth) : NEAR;
 }
 
 static inline void prepare(const module *m, enum scenario s)
 {
     uint64_t far = far_line(m->depth);
     need(call_format(m) == NV_DONE);
-    if (s == CACHED_READ || s == CACHED_WRITE || s == DIRTY_PAGES)
+    if (s == CACHED_READ || s == CACHED_WRITE || s == SMALL_RECOVERY || s == DIRTY_PAGES)
         put_lines(m, NEAR, 1);
     if (s == STOP_LOSS_WRITE)
         put_lines(m, NEAR, 3);
@@ -164,21 +165,27 @@ static inline void prepare(const module *m, enum scenario s)
         put_lines(m, far, 1);
         put_lines(m, NEAR, 1);
     }
-    if (s == FULL_WRITE || s == PENDING_RECOVERY) {
+    if (s == FULL_WRITE || s == FULL_RECOVERY) {
         put_lines(m, far, 3);
         put_lines(m, NEAR, 1);
     }
     if (s == IDLE_RECOVERY)
         fill_slots(m);
     memset(m->text, 0xe7, NV_TEXT_LENGTH);
-    if (s == PENDING_RECOVERY) // cut after the commit of a batch of 2h + 2 cells
-        need(call_write(m, far, 2 * m->depth + 3) == NV_CUT);
+    if (s == SMALL_RECOVERY) // cut after the commit of a batch of one cell
+        need(call_write(m, NEAR, 2) == NV_CUT && m->control[15] == 1);
+    if (s == FULL_RECOVERY) // cut after the commit of a batch of 2h + 2 cells
+        need(call_write(m, far, 2 * m->depth + 3) == NV_CUT && m->control[15] == 2 * m->depth + 2);
 }
 
-// Whether a call is one of those that may store.
-static inline int may_store(enum scenario s)
+static inline int recovers(enum scenario s)
 {
-    return s != FORMAT && s != DIRTY_PAGES;
+    return s == IDLE_RECOVERY || s == SMALL_RECOVERY || s == FULL_RECOVERY;
+}
+
+static inline int writes(enum scenario s)
+{
+    return s == CACHED_WRITE || s == STOP_LOSS_WRITE || s == EVICTING_WRITE || s == FULL_WRITE;
 }
 
 static inline uint32_t run_scenario(const module *m, enum scenario s, uint64_t allowance)
@@ -187,6 +194,7 @@ static inline uint32_t run_scenario(const module *m, enum scenario s, uint64_t a
     switch (s) {
     case CACHED_READ:
     case BLANK_READ:
+    case FIRST_READ:
     case EVICTING_READ:
         return call_read(m, line, allowance);
     case CACHED_WRITE:
@@ -195,7 +203,8 @@ static inline uint32_t run_scenario(const module *m, enum scenario s, uint64_t a
     case FULL_WRITE:
         return call_write(m, line, allowance);
     case IDLE_RECOVERY:
-    case PENDING_RECOVERY:
+    case SMALL_RECOVERY:
+    case FULL_RECOVERY:
         return call_recover(m, allowance);
     case FORMAT:
         return call_format(m);
@@ -207,7 +216,7 @@ static inline uint32_t run_scenario(const module *m, enum scenario s, uint64_t a
 // What the call of a scenario returns.
 static inline uint32_t scenario_code(enum scenario s)
 {
-    return s == BLANK_READ ? NV_BLANK : NV_DONE;
+    return s == BLANK_READ || s == FIRST_READ ? NV_BLANK : NV_DONE;
 }
 
 #endif
