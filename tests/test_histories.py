@@ -11,11 +11,12 @@ import sys
 import model
 import states
 from book import Book, commits, faults_after_recovery
-from library import BLANK, CUT, DONE, Library, REFUSED, Session, Tally, in_parallel
+from library import BLANK, CUT, DONE, Library, NUMBERS, REFUSED, Session, Tally, in_parallel
 from model import UNLIMITED
 from states import KEYS, text_of
 
 RANDOM = {1: (300, 120), 2: (60, 90), 3: (12, 60)}  # histories and their lengths
+MOST_STORES = 19
 # Small lists: their length, the events, and how many cuts recovery may meet in a row.
 SMALL = (
     (2, (("write", 0), ("write", 1), ("write", 256), ("write", 320), ("read", 0), ("read", 257)), 2),
@@ -27,8 +28,9 @@ class Rule:
     """A module in the library, the book of its history, and the rule."""
 
     def __init__(self, depth):
-        self.session = Session(Library(), depth, KEYS)
-        self.scratch = Session(Library(), depth, KEYS)
+        self.library = Library()
+        self.session = Session(self.library, depth, KEYS)
+        self.scratch = Session(self.library, depth, KEYS)
         self.depth = depth
         self.tally = Tally("histories")
         self.recoveries = self.calls = self.cuts = 0
@@ -37,7 +39,6 @@ class Rule:
     def start(self):
         code = self.session.make("format", depth=self.depth)[0]
         self.tally.check(code == DONE, "format gave %d" % code)
-        self.session.put("cache", bytes(model.cache_length(self.depth)))
         self.book = Book()
 
     def stores_of_whole(self, line, text):
@@ -46,14 +47,17 @@ class Rule:
         return self.scratch.write(line, text)[1]
 
     def write(self, line, text, allowance):
-        whole = self.stores_of_whole(line, text) if allowance < 19 else None
+        whole = self.stores_of_whole(line, text) if allowance < MOST_STORES else 0
+        worn = self.book.counts.get(line) == 127
         code, stores, _, _ = self.session.write(line, text, allowance)
         self.calls += 1
+        self.tally.check(code == 126 if worn else code in (DONE, CUT), "a write of line %d gave %d" % (line, code))
         if code == DONE or code == CUT and commits(stores, whole):
             self.book.commit(line, text)
+        self.cuts += code == CUT
         if code == CUT:
             self.tally.check(stores == allowance < whole, "a write of %d stores cut after %d of %d" % (whole, stores, allowance))
-        elif code == DONE and whole is not None:
+        elif code == DONE and whole:
             self.tally.check(stores == whole <= allowance, "a write of %d stores done under %d" % (whole, allowance))
         return code
 
@@ -63,6 +67,7 @@ class Rule:
         code, stores, _, _ = self.session.read(line, allowance)
         self.calls += 1
         out = self.session.get("out")
+        self.cuts += code == CUT
         if code == CUT:
             self.tally.check(stores == allowance and out == b"\x5a" * 64, "a read of line %d cut" % line)
         elif line < model.lines(self.depth):
@@ -74,6 +79,7 @@ class Rule:
         code, stores, told, _ = self.session.recover(allowance)
         self.calls += 1
         self.tally.check(code in (DONE, CUT), "recovery refused: %d" % code)
+        self.cuts += code == CUT
         if code == CUT:
             self.tally.check(stores == allowance, "recovery cut after %d of %d" % (stores, allowance))
         if code == DONE:
@@ -101,24 +107,23 @@ def any_cache(rng, rule):
 
 
 def refused_call(rng, rule):
-    """A call that is refused without a store; it changes neither module nor book."""
+    """A call that is refused without a store, with other keys too; it changes neither module nor book."""
     session = rule.session
     before = session.module()
+    parts = (before.control, before.array, before.cache)
     style = rng.randrange(4)
     if style == 0:
-        code = session.make("format", depth=rng.choice([0, 4, 2**64 - 1] + [d for d in states.DEPTHS if d != rule.depth]))[0]
+        others = [0, 4, 2**64 - 1] + [depth for depth in states.DEPTHS if depth != rule.depth]
+        code = session.make("format", depth=rng.choice(others))[0]
     elif style == 1:
         code = session.write(rng.choice([model.lines(rule.depth), 2**64 - 1]), text_of(1), UNLIMITED)[0]
     elif style == 2:
-        other = Session(Library(), rule.depth, rng.randbytes(rng.choice([0, 47, 49])))
-        other.load(before)
-        code = rng.choice([other.read, lambda line: other.write(line, text_of(1))])(0)[0]
-        rule.tally.check(other.module() == before, "a refused call changed the module")
+        keys = rng.randbytes(rng.choice([0, 47, 49]))
+        code, slices = rule.library.call("write", keys, *parts, 0, text_of(1), UNLIMITED, NUMBERS)
+        rule.tally.check(tuple(slices[1:4]) == parts, "a refused call changed the module")
     else:
-        session.lengths["numbers"] = 23
-        code = session.functions["recover"](*[x for part in ("keys", "control", "array", "cache") for x in
-                                              (session.at[part], session.lengths[part])], UNLIMITED, session.at["numbers"], 23)
-        session.lengths["numbers"] = 24
+        code, slices = rule.library.call("recover", KEYS, *parts, UNLIMITED, NUMBERS[1:])
+        rule.tally.check(tuple(slices[1:4]) == parts, "a refused call changed the module")
     rule.tally.check(code > REFUSED and session.module() == before, "a call that must be refused gave %d" % code)
 
 
@@ -148,7 +153,6 @@ def random_history(rule, rng, length):
                 down = True
             code = rule.recover(allowance if rng.randrange(2) else UNLIMITED, step % 40 == 0 and rule.depth < 3)
             down = code == CUT
-            rule.cuts += code == CUT
             continue
         line = rng.choice(hot) if rng.randrange(8) else rng.randrange(model.lines(rule.depth))
         style = rng.randrange(10)
@@ -160,17 +164,28 @@ def random_history(rule, rng, length):
             dirty_pages(rule)
         else:
             refused_call(rng, rule)
-        rule.cuts += down
     rule.session.put("cache", any_cache(rng, rule))
     rule.tally.check(rule.recover(UNLIMITED, True) == DONE, "the last recovery")
     rule.tally.check(rule.session.guards_hold(), "guard bytes")
 
 
-def random_part(job):
-    depth, seed = job
+def random_part(depth, seed):
     rule = Rule(depth)
-    rng = random.Random(seed)
-    random_history(rule, rng, RANDOM[depth][1])
+    random_history(rule, random.Random(seed), RANDOM[depth][1])
+    return depth, rule
+
+
+def worn_part(depth):
+    """One line until it is worn, with cuts and recoveries on the way; its writes are then refused, its text stays."""
+    rule = Rule(depth)
+    line = model.lines(depth) - 5
+    rng = random.Random(depth)
+    for turn in range(160):
+        if rule.write(line, rng.randbytes(64), turn % 7 if turn % 3 == 0 else UNLIMITED) == CUT or turn % 10 == 0:
+            rule.session.put("cache", any_cache(rng, rule))
+            rule.recover(UNLIMITED)
+    rule.tally.check(rule.book.counts[line] == 127, "the line is written %d times" % rule.book.counts[line])
+    rule.read(line, UNLIMITED)
     return depth, rule
 
 
@@ -193,7 +208,6 @@ def small_lists(rule, events, alphabet, cuts_left, firsts=None):
         small_lists(rule, events - 1, alphabet, cuts_left)
         for allowance in range(whole):
             rule.tally.check(call(allowance) == CUT, "a call of %d stores not cut under %d" % (whole, allowance))
-            rule.cuts += 1
             every_recovery(rule, allowance, cuts_left)
             small_lists(rule, events - 1, alphabet, cuts_left)
     rule.go_back(before)
@@ -210,7 +224,6 @@ def every_recovery(rule, seed, cuts_left):
     for allowance in range(pending + 2 if pending and cuts_left else 0):
         rule.go_back(before)
         rule.tally.check(rule.recover(allowance) == CUT, "recovery not cut under %d" % allowance)
-        rule.cuts += 1
         every_recovery(rule, seed + allowance + 1, cuts_left - 1)
     rule.go_back(before)
     rule.tally.check(rule.recover(UNLIMITED, rule.recoveries % 100 == 0) == DONE, "recovery not done")
@@ -226,7 +239,7 @@ def small_part(events, alphabet, cuts_left, first):
 
 def work(job):
     kind, *rest = job
-    depth, rule = random_part(rest) if kind == "random" else small_part(*rest)
+    depth, rule = {"random": random_part, "worn": worn_part, "small": small_part}[kind](*rest)
     return kind, depth, rule.calls, rule.cuts, rule.recoveries, rule.tally.passed, rule.tally.failed
 
 
@@ -235,12 +248,13 @@ def main():
     tally = Tally("histories")
     jobs = [("small", events, alphabet, cuts, first) for events, alphabet, cuts in SMALL for first in alphabet]
     jobs += [("random", depth, 1000 * seed + 100 * depth + i) for depth in states.DEPTHS for i in range(RANDOM[depth][0])]
+    jobs += [("worn", depth) for depth in states.DEPTHS]
     sums = {}
     for kind, depth, *counts, passed, failed in in_parallel(work, jobs):
         sums[kind, depth] = [a + b for a, b in zip(sums.get((kind, depth), (0, 0, 0)), counts)]
         tally.add(passed, failed)
     for (kind, depth), (calls, cuts, recoveries) in sums.items():
-        print("histories: depth %d: %s lists: %d calls, %d of them cut, the rule checked after %d recoveries" % (
+        print("histories: depth %d: lists (%s): %d calls, %d of them cut, the rule checked after %d recoveries" % (
             depth, kind, calls, cuts, recoveries))
     tally.finish()
 
