@@ -4,7 +4,6 @@
 #include "../tests/module.h"
 #include "memory.h"
 #include <sodium.h>
-#include <stdio.h>
 #include <time.h>
 
 CALLS(plain_)

@@ -7,13 +7,12 @@
 // with another cache must be done and give every line's count and text as the book has them.
 #include "module.h"
 #include <signal.h>
-#include <stdio.h>
 #include <sys/mman.h>
 #include <sys/ptrace.h>
 #include <sys/wait.h>
 #include <unistd.h>
 
-enum { STORES = 19, COUNT_AT = 15, QUEUE_FROM = 16, CELL = 72, SLOT = 73, LINES_READ = 800, LONG = 1000000 };
+enum { STORES = 19, ROOT_AT = 7, COUNT_AT = 15, NEW_ROOT_AT = 16, QUEUE_AT = 24, PLACE = 80, CELL = 72, SLOT = 73, LINES_READ = 800, LONG = 1000000 };
 
 static const calls ours = CALLS_OF(nv_);
 
@@ -64,6 +63,36 @@ static module joined(unsigned depth, void *(*get)(size_t))
 
 // ---- What is expected ----
 
+// Whether each store is the paper's: the queue's places, the commit, the cells of the queue, the root, count 0. A recovery
+// starts after the commit, and makes no store if nothing is pending.
+static int in_sequence(const listed *l, unsigned cells, unsigned first)
+{
+    if (l->stores != (cells ? 2 * cells + 3 - first : 0))
+        return 0;
+    for (unsigned k = 0; k < l->stores; k++) {
+        const uint8_t *before = l->whole[k], *after = l->whole[k + 1], *from = after;
+        unsigned t = k + first;
+        size_t at = COUNT_AT, n = 1;
+        if (t < cells) {
+            at = QUEUE_AT + PLACE * t, n = PLACE, from = after + at;
+        } else if (t == cells) {
+            n = 9, from = after + at;
+        } else if (t <= 2 * cells) {
+            const uint8_t *place = before + QUEUE_AT + PLACE * (t - cells - 1);
+            uint64_t cell;
+            memcpy(&cell, place, 8);
+            at = NV_CONTROL_LENGTH + CELL * cell, n = CELL, from = place + 8;
+        } else if (t == 2 * cells + 1) {
+            at = ROOT_AT, n = 8, from = before + NEW_ROOT_AT;
+        }
+        int content = t == 2 * cells + 2 ? after[at] == 0 : memcmp(after + at, from, n) == 0;
+        if (!content || (t == cells && after[at] != cells) || memcmp(before, after, at) != 0
+            || memcmp(before + at + n, after + at + n, length - at - n) != 0)
+            return 0;
+    }
+    return 1;
+}
+
 // The memory after each store, by the same call under each allowance.
 static void list_stores(listed *l, const module *start, enum scenario s)
 {
@@ -76,6 +105,8 @@ static void list_stores(listed *l, const module *start, enum scenario s)
         if (code != NV_CUT)
             break;
     }
+    need(recovers(s) ? in_sequence(l, start->control[COUNT_AT], start->control[COUNT_AT] + 1u)
+                     : l->stores == 0 || in_sequence(l, (l->stores - 3) / 2, 0));
     l->batch = recovers(s) || l->stores == 0 ? STORES : (l->stores - 3) / 2;
     l->writes = writes(s);
     l->line = scenario_line(s, start->depth);
@@ -270,7 +301,7 @@ static void set_up(unsigned depth)
 static void start(enum scenario s)
 {
     prepare(&live, s);
-    for (int i = QUEUE_FROM; i < NV_CONTROL_LENGTH && live.control[COUNT_AT] == 0; i++)
+    for (int i = NEW_ROOT_AT; i < NV_CONTROL_LENGTH && live.control[COUNT_AT] == 0; i++)
         live.control[i] = (uint8_t)(0x80 | i * 3);
 }
 

@@ -3,6 +3,7 @@
 #define MODULE_H
 
 #include "../include/nightvelvet.h"
+#include <stdio.h>
 #include <stdlib.h>
 #include <string.h>
 
@@ -120,11 +121,14 @@ static inline uint64_t far_line(unsigned depth)
     return 64 * (depth == 1 ? 4 : 2 * ((uint64_t)1 << 3 * (depth - 1)));
 }
 
-static inline void need(int holds)
+static inline void broken(const char *file, int line, const char *what)
 {
-    if (!holds)
-        abort();
+    fprintf(stderr, "%s:%d: does not hold: %s\n", file, line, what);
+    abort();
 }
+
+// What a test rests on.
+#define need(holds) ((holds) ? (void)0 : broken(__FILE__, __LINE__, #holds))
 
 static inline void put_lines(const module *m, uint64_t line, int times)
 {

@@ -4,7 +4,6 @@
 // two must agree in code and every byte. An argument is another seed.
 #include "../bench/memory.h"
 #include "module.h"
-#include <stdio.h>
 #include <sys/mman.h>
 #include <unistd.h>
 

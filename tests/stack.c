@@ -1,7 +1,6 @@
 // How much stack each call uses: the call runs on a painted stack of its own, and what it changed is the high-water mark.
 // Counted from the caller's frame, so the arguments and the return address are in it. At most 3 KiB each.
 #include "module.h"
-#include <stdio.h>
 #include <ucontext.h>
 
 enum { ROOM = 1 << 16, MOST = 3072 };
