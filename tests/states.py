@@ -11,6 +11,22 @@ OTHER_TAG = KEYS[:47] + bytes([255])
 ALLOWANCES = tuple(range(20)) + (20, 2**32 - 1, 2**32, 2**63, UNLIMITED)
 DEPTHS = (1, 2, 3)
 
+# The paper's bench listing.
+LISTING = "w 0 17,w 0 18,r 0,k 2,w 0 19,p,r 0,k 4,w 0 20,p,r 0,k 1,w 0 99,p,r 0,r 64".split(",")
+PRINTED = """w 0 done 9
+w 0 done 5
+r 0 done 0 18
+w 0 cut 2
+p done 3 3
+r 0 done 0 19
+w 0 cut 4
+p done 4 0
+r 0 done 0 20
+w 0 cut 1
+p done 0 0
+r 0 done 0 20
+r 64 blank 5 0""".split("\n")
+
 
 @lru_cache(maxsize=None)
 def formatted(depth, keys=KEYS):

@@ -10,22 +10,6 @@ from library import CUT, DONE, Library, NUMBERS, Session, Tally, in_parallel, nu
 from model import UNLIMITED
 from states import KEYS, text_of
 
-LISTING = """w 0 17, w 0 18, r 0, k 2, w 0 19, p, r 0, k 4, w 0 20, p, r 0, k 1, w 0 99, p, r 0, r 64"""
-PRINTED = """w 0 done 9
-w 0 done 5
-r 0 done 0 18
-w 0 cut 2
-p done 3 3
-r 0 done 0 19
-w 0 cut 4
-p done 4 0
-r 0 done 0 20
-w 0 cut 1
-p done 0 0
-r 0 done 0 20
-r 64 blank 5 0"""
-
-
 def book_of(lines):
     book = Book()
     for i, line in enumerate(lines):
@@ -115,40 +99,28 @@ def at_depth(depth):
 
 # ---- The bench listing ----
 
-def bench(library, commands):
-    """The paper's bench program over the library, for commands as its listing has them."""
-    session = Session(library, 1, KEYS)
-    session.make("format", depth=1)
-    allowance = UNLIMITED
-    for command, *numbers in (text.split() for text in commands):
-        numbers = [int(number) for number in numbers]
-        if command == "k":
-            allowance = numbers[0]
-            continue
-        if command == "w":
-            code, stores, first, _ = session.write(numbers[0], text_of(numbers[1]), allowance)
-            more = []
-        elif command == "r":
-            code, stores, first, _ = session.read(numbers[0], allowance)
-            more = [session.get("out")[0]]
-        else:
-            code, stores, first, _ = session.recover(allowance)
-            more = [first]
-        allowance = UNLIMITED
-        if code == CUT:
-            session.put("cache", bytes(model.cache_length(1)))
-            more = []
-        words = [command] + numbers[:1]
-        words += ["refused", code - 100] if code >= 100 else [("done", "blank", "cut")[code], stores] + more
-        yield " ".join(str(word) for word in words)
+KINDS = ("done", "blank", "cut")
+
+
+def run_by(library):
+    """Makes the calls of the bench program by the library."""
+    def run(keys, command, numbers, allowance, module):
+        name = {"w": "write", "r": "read", "p": "recover"}[command]
+        between = ()
+        if command != "p":
+            between = numbers[0], text_of(numbers[1] if command == "w" else 0)
+        code, slices = library.call(name, keys, module.control, module.array, module.cache, *between, allowance, NUMBERS)
+        kind, number = ("refused", code - 100) if code >= 100 else (KINDS[code], 0)
+        value = {"w": None, "r": slices[-2][0], "p": numbers_of(slices)[1]}[command]
+        answer = model.Answer(kind, number, *numbers_of(slices))
+        return answer, model.Module(slices[2], slices[1], slices[3]), value
+    return run
 
 
 def main():
     tally = Tally("cuts")
-    printed = list(bench(Library(), LISTING.split(", ")))
-    for got, wanted in zip(printed, PRINTED.split("\n")):
-        tally.check(got == wanted, "bench listing: %s, wanted %s" % (got, wanted))
-    tally.check(len(printed) == 13, "bench listing: %d lines" % len(printed))
+    printed = model.bench(states.LISTING, run_by(Library()))
+    tally.check(printed == states.PRINTED, "bench listing: %s" % printed)
     for depth, cuts, recoveries, most, passed, failed in in_parallel(at_depth, states.DEPTHS):
         print("cuts: depth %d: %d cuts, %d recoveries from them, calls of up to %d stores" % (depth, cuts, recoveries, most))
         tally.add(passed, failed)
