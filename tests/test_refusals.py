@@ -236,7 +236,9 @@ class Refusals:
         self.pairs += 1
 
     def call(self, name, base, faults):
-        """Each fault alone, then in pairs: all variants of two different refusals, and places of the same one."""
+        """No fault, each fault alone, then pairs: variants of two different refusals, and places of the same one."""
+        code, _ = self.tally.compare(self.library, name, in_sequence(name, base))
+        self.tally.check(code in (0, 1), "nv_%s without a fault gave %d" % (name, code))
         for fault in faults:
             self.one(name, fault, base)
         if name in ("read", "write", "recover") and base["control"][15] == 0:
