@@ -12,7 +12,8 @@
 #include <sys/wait.h>
 #include <unistd.h>
 
-enum { STORES = 19, ROOT_AT = 7, COUNT_AT = 15, NEW_ROOT_AT = 16, QUEUE_AT = 24, PLACE = 80, CELL = 72, SLOT = 73, LINES_READ = 800, LONG = 1000000 };
+enum { STORES = 19, LINES_READ = 800, LONG = 1000000 };
+enum { ROOT_AT = 7, COUNT_AT = 15, NEW_ROOT_AT = 16, QUEUE_AT = 24, PLACE = 80, CELL = 72, SLOT = 73 };
 
 static const calls ours = CALLS_OF(nv_);
 
