@@ -701,7 +701,8 @@ def answer_text(command, numbers, answer, value):
     return " ".join(str(word) for word in words)
 
 
-def bench(lines_of_text):
+def bench(lines_of_text, run=run_command):
+    """What the program prints; run makes the calls."""
     keys = bytes(range(KEYS_LENGTH))
     _, module = format_call(keys, 1, zero_module(1))
     allowance = UNLIMITED
@@ -715,8 +716,7 @@ def bench(lines_of_text):
         if command == "k":
             allowance = numbers[0]
             continue
-        answer, module, value = run_command(keys, command, numbers, allowance,
-                                            module)
+        answer, module, value = run(keys, command, numbers, allowance, module)
         allowance = UNLIMITED
         if answer.kind == "cut":
             module = module._replace(cache=bytes(len(module.cache)))

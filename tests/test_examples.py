@@ -11,9 +11,9 @@ import sys
 
 import model
 from model import UNLIMITED
+from states import KEYS, formatted
 
 TOP = os.path.dirname(os.path.dirname(os.path.abspath(__file__)))
-KEYS = bytes(range(48))
 
 
 def written(module, *texts):
@@ -21,10 +21,6 @@ def written(module, *texts):
     for line, byte in texts:
         module = model.write_call(KEYS, line, bytes([byte]) * 64, UNLIMITED, module)[1]
     return module
-
-
-def formatted(depth):
-    return model.format_call(KEYS, depth, model.zero_module(depth))[1]
 
 
 # ---- terms: each value with the antt text that denotes it

@@ -10,10 +10,9 @@ from model import (Answer, History, Module, UNLIMITED, array_length, bench,
                    number8, pages, lines, read_call, recover_call,
                    run_history, shadow_cell, slot_of, slots, write_call,
                    zero_module)
+from states import (KEYS, LISTING, OTHER_PAD, OTHER_TAG, PRINTED, cell_patched,
+                    formatted, patched, text_of)
 
-KEYS = bytes(range(48))
-OTHER_PAD = bytes([255]) + KEYS[1:]
-OTHER_TAG = KEYS[:47] + bytes([255])
 OUTPUT = b"\x5a" * 64
 
 results = {"passed": 0, "failed": 0}
@@ -48,18 +47,6 @@ def raises_value_error(what, action):
         check(what, True)
     else:
         check(what, False)
-
-
-def text_of(byte):
-    return bytes([byte % 256]) * 64
-
-
-def patched(data, offset, piece):
-    return data[:offset] + piece + data[offset + len(piece):]
-
-
-def cell_patched(array, cell, offset, piece):
-    return patched(array, 72 * cell + offset, piece)
 
 
 # ---- Primitives and layout ----
@@ -115,27 +102,9 @@ def test_arithmetic():
 
 # ---- Bench ----
 
-BENCH_INPUT = ("w 0 17,w 0 18,r 0,k 2,w 0 19,p,r 0,k 4,w 0 20,p,r 0,k 1,"
-               "w 0 99,p,r 0,r 64")
-BENCH_OUTPUT = """\
-w 0 done 9
-w 0 done 5
-r 0 done 0 18
-w 0 cut 2
-p done 3 3
-r 0 done 0 19
-w 0 cut 4
-p done 4 0
-r 0 done 0 20
-w 0 cut 1
-p done 0 0
-r 0 done 0 20
-r 64 blank 5 0"""
-
-
 def test_bench():
-    got = bench(BENCH_INPUT.split(","))
-    wanted = BENCH_OUTPUT.split("\n")
+    got = bench(LISTING)
+    wanted = PRINTED
     equal("bench length", len(got), len(wanted))
     for number, pair in enumerate(zip(got, wanted)):
         equal("bench line %d" % (number + 1), *pair)
@@ -166,10 +135,6 @@ def test_bench():
 
 
 # ---- Single calls ----
-
-def formatted(depth):
-    return format_call(KEYS, depth, zero_module(depth))[1]
-
 
 def written(depth, *where):
     """A module after done writes of the named lines, in order."""

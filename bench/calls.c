@@ -1,0 +1,135 @@
+// Times each call at each depth: ours, plain C at -O3 (memory.c over plain.c), and plain C over libsodium's primitives.
+// The three take turns in one run on the same state, and the median turn counts. A call that changes the module is
+// followed by putting back what it changed; the time of that, measured in the same turns, is taken off.
+#include "../tests/module.h"
+#include "memory.h"
+#include <sodium.h>
+#include <time.h>
+
+CALLS(plain_)
+CALLS(sodium_)
+
+enum { OURS, PLAIN, SODIUM, WHO, BACK = WHO, TIMED, TURNS = 41, CELL = 72, CHANGED = 16 };
+
+static const calls all[WHO] = { CALLS_OF(nv_), CALLS_OF(plain_), CALLS_OF(sodium_) };
+static const double turn_ns = 400e3;
+
+static double now(void)
+{
+    struct timespec t;
+    clock_gettime(CLOCK_MONOTONIC, &t);
+    return (double)t.tv_sec * 1e9 + (double)t.tv_nsec;
+}
+
+// What a call changes of a state, and how it was.
+typedef struct {
+    module before;
+    size_t cell[CHANGED];
+    int cells, any;
+} undo;
+
+static void find_changes(undo *u, const module *m)
+{
+    u->cells = 0;
+    u->any = memcmp(m->control, u->before.control, NV_CONTROL_LENGTH) || memcmp(m->cache, u->before.cache, m->cache_len);
+    for (size_t at = 0; at < m->array_len; at += CELL)
+        if (memcmp(m->array + at, u->before.array + at, CELL)) {
+            need(u->cells < CHANGED);
+            u->cell[u->cells++] = at;
+            u->any = 1;
+        }
+}
+
+static void put_back(const undo *u, const module *m)
+{
+    memcpy(m->control, u->before.control, NV_CONTROL_LENGTH);
+    memcpy(m->cache, u->before.cache, m->cache_len);
+    for (int i = 0; i < u->cells; i++)
+        memcpy(m->array + u->cell[i], u->before.array + u->cell[i], CELL);
+}
+
+static double turn(const undo *u, module *m, enum scenario s, int who, long times)
+{
+    double began = now();
+    for (long i = 0; i < times; i++) {
+        if (who != BACK)
+            run_scenario(m, s, UNLIMITED);
+        if (u->any)
+            put_back(u, m);
+    }
+    return (now() - began) / (double)times;
+}
+
+static int by_size(const void *a, const void *b)
+{
+    double x = *(const double *)a, y = *(const double *)b;
+    return (x > y) - (x < y);
+}
+
+static double median(double *times)
+{
+    qsort(times, TURNS, sizeof *times, by_size);
+    return times[TURNS / 2];
+}
+
+// Whether the three leave the same.
+static int agree(module *m, undo *u, enum scenario s)
+{
+    module first = make_module(&all[OURS], m->depth, malloc);
+    int same = 1;
+    for (int who = 0; who < WHO; who++) {
+        copy_module(m, &u->before);
+        m->by = &all[who];
+        need(run_scenario(m, s, UNLIMITED) == scenario_code(s));
+        if (who == OURS)
+            copy_module(&first, m);
+        same = same && memcmp(first.array, m->array, m->array_len) == 0 && memcmp(first.cache, m->cache, m->cache_len) == 0
+            && memcmp(first.control, m->control, NV_CONTROL_LENGTH) == 0;
+    }
+    find_changes(u, m);
+    if (s == FORMAT)
+        u->any = 0;
+    free(first.control), free(first.array), free(first.cache);
+    return same;
+}
+
+static int compare(module *m, undo *u, enum scenario s)
+{
+    static double times[TIMED][TURNS];
+    double ns[TIMED];
+    m->by = &all[PLAIN];
+    prepare(m, s);
+    copy_module(&u->before, m);
+    int same = agree(m, u, s);
+    copy_module(m, &u->before);
+    m->by = &all[PLAIN];
+    long calls = (long)(turn_ns / turn(u, m, s, PLAIN, 20)) + 1;
+    for (int i = 0; i < TURNS; i++)
+        for (int who = 0; who < TIMED; who++) {
+            m->by = &all[who % WHO];
+            times[who][i] = turn(u, m, s, who, calls);
+        }
+    for (int who = 0; who < TIMED; who++)
+        ns[who] = median(times[who]);
+    for (int who = 0; who < WHO && u->any; who++)
+        ns[who] -= ns[BACK];
+    double fastest = ns[PLAIN] < ns[SODIUM] ? ns[PLAIN] : ns[SODIUM];
+    printf("%u  %-24s %10.0f %10.0f %10.0f %10.2f%s\n", m->depth, scenario_names[s], ns[OURS], ns[PLAIN], ns[SODIUM],
+           ns[OURS] / fastest, same ? "" : "  the three do not agree");
+    return !same;
+}
+
+int main(void)
+{
+    int wrong = 0;
+    if (sodium_init() < 0)
+        return 1;
+    printf("%-27s %10s %10s %10s %10s\n", "depth, ns for one call", "ours", "plain C", "libsodium", "ours/fastest");
+    for (unsigned depth = 1; depth <= 3; depth++) {
+        module m = make_module(&all[PLAIN], depth, malloc);
+        undo u = { .before = make_module(&all[PLAIN], depth, malloc) };
+        for (int s = 0; s < SCENARIOS; s++)
+            wrong |= compare(&m, &u, s);
+    }
+    return wrong;
+}

@@ -1,0 +1,597 @@
+// The whole layer in plain C11, as firmware would have it without proofs: what the benchmark compares with, and what the
+// host tests can be tried on. Works in place: the path is found without touching the cache, the batch is staged in the
+// queue of the control record, and the cache is written after the stores.
+// -DPREFIX=.. sets the prefix of the functions (nv_ if none), -DSODIUM takes the primitives from libsodium.
+#include "memory.h"
+#include <stdatomic.h>
+#include <string.h>
+
+#ifndef PREFIX
+#define PREFIX nv_
+#endif
+#define JOINED(a, b) a##b
+#define JOIN(a, b) JOINED(a, b)
+#define NAME(call) JOIN(PREFIX, call)
+
+#ifdef SODIUM
+#include <sodium.h>
+#else
+#include "plain.h"
+#endif
+
+enum { CELL = 72, CONTENT = 64, SLOT = 73, PLACE = 80, LEVELS = 4, SLOTS = 10, QUEUE = 8 };
+enum { DEPTH_AT = 5, ROOT_AT = 7, COUNT_AT = 15, NEW_ROOT_AT = 16, QUEUE_AT = 24 }; // control record
+enum { DIRTY_AT = 8, CONTENT_AT = 9 };                                            // slot of the cache
+enum { MINOR_MAX = 127, STOP_LOSS = 4 };
+
+typedef struct {
+    uint32_t node[LEVELS]; // the first cell of each level
+    uint32_t shadow, cells, slots;
+} map;
+
+static const map maps[LEVELS] = {
+    [1] = { { 512, 520 }, 521, 527, 6 },
+    [2] = { { 4096, 4160, 4168 }, 4169, 4177, 8 },
+    [3] = { { 32768, 33280, 33344, 33352 }, 33353, 33363, 10 },
+};
+
+typedef struct {
+    const uint8_t *keys;
+    uint8_t *control, *array, *cache;
+    const map *map;
+    unsigned depth;
+} module;
+
+// Where the nodes of a page's path are: in the cache or, if loaded has the bit of the level, still in the array.
+typedef struct {
+    const uint8_t *content[LEVELS];
+    uint8_t *slot[LEVELS];
+    unsigned loaded;
+} path;
+
+// Numbers are little-endian, as this machine has them.
+static uint64_t get64(const uint8_t *s)
+{
+    uint64_t x;
+    memcpy(&x, s, 8);
+    return x;
+}
+
+static void put64(uint8_t *s, uint64_t x)
+{
+    memcpy(s, &x, 8);
+}
+
+// The stores of a batch reach memory one after the other.
+static void ordered(void)
+{
+    atomic_signal_fence(memory_order_seq_cst);
+}
+
+// ---- Primitives ----
+
+// out = in XOR the pad of a line.
+static void cipher(const module *m, uint64_t line, const uint8_t *block, uint32_t minor, const uint8_t *in, uint8_t *out)
+{
+    uint8_t nonce[12];
+    memcpy(nonce, &minor, 4);
+    memcpy(nonce + 4, block, 8);
+#ifdef SODIUM
+    crypto_stream_chacha20_ietf_xor_ic(out, in, CONTENT, nonce, (uint32_t)line, m->keys);
+#else
+    uint8_t pad[CONTENT];
+    plain_chacha20_block(m->keys, (uint32_t)line, nonce, pad);
+    for (int i = 0; i < CONTENT; i += 8)
+        put64(out + i, get64(in + i) ^ get64(pad + i));
+#endif
+}
+
+static uint64_t hash(const module *m, const uint8_t *message, size_t n)
+{
+    uint8_t out[8];
+#ifdef SODIUM
+    crypto_shorthash_siphash24(out, message, n, m->keys + 32);
+#else
+    plain_siphash24(m->keys + 32, message, n, out);
+#endif
+    return get64(out);
+}
+
+// The tag of the node whose content already stands in the message.
+static uint64_t tag_in(const module *m, uint8_t message[80], unsigned level, uint64_t index)
+{
+    put64(message + 64, level);
+    put64(message + 72, index);
+    return hash(m, message, 80);
+}
+
+static uint64_t node_tag(const module *m, const uint8_t *content, unsigned level, uint64_t index)
+{
+    uint8_t message[80];
+    memcpy(message, content, CONTENT);
+    return tag_in(m, message, level, index);
+}
+
+// A written data cell's side bytes: phase, then seven bytes of tag.
+static uint64_t data_side(const module *m, const uint8_t *content, uint64_t line, const uint8_t *block, uint32_t minor)
+{
+    uint8_t message[88];
+    memcpy(message, content, CONTENT);
+    put64(message + 64, line);
+    memcpy(message + 72, block, 8);
+    put64(message + 80, minor);
+    return hash(m, message, 88) << 8 | minor % 4;
+}
+
+// ---- Counter blocks: the eight bytes that end with a group's seven hold each of its eight minors whole ----
+
+static uint32_t minor_of(const uint8_t *block, unsigned line)
+{
+    return get64(block + 7 + 7 * (line / 8)) >> (8 + 7 * (line % 8)) & 127;
+}
+
+static void set_minor(uint8_t *block, unsigned line, uint64_t minor)
+{
+    uint8_t *group = block + 7 + 7 * (line / 8);
+    unsigned shift = 8 + 7 * (line % 8);
+    put64(group, (get64(group) & ~((uint64_t)127 << shift)) | minor << shift);
+}
+
+// ---- Map, slots and validity ----
+
+static unsigned level_of(unsigned slot)
+{
+    return slot < 4 ? 0 : slot / 2 - 1;
+}
+
+static unsigned slot_of(unsigned level, uint64_t index)
+{
+    return level == 0 ? index % 4 : 2 + 2 * level + index % 2;
+}
+
+static uint8_t *node_cell(const module *m, unsigned level, uint64_t index)
+{
+    return m->array + CELL * (m->map->node[level] + index);
+}
+
+static int owner_fits(const module *m, unsigned slot, uint64_t owner)
+{
+    unsigned level = level_of(slot);
+    return owner == 0 || (owner - 1 < (uint64_t)1 << 3 * (m->depth - level) && slot_of(level, owner - 1) == slot);
+}
+
+static int cache_formed(const module *m, const uint8_t *cache)
+{
+    uint64_t any = 0;
+    for (unsigned i = 0; i < m->map->slots; i++) {
+        uint64_t owner = get64(cache + SLOT * i);
+        if (cache[SLOT * i + DIRTY_AT] > (owner != 0) || !owner_fits(m, i, owner))
+            return 0;
+        any |= owner;
+    }
+    return any == 0 || get64(cache + SLOT * slot_of(m->depth, 0)) != 0;
+}
+
+static int control_valid(const uint8_t *control)
+{
+    if (memcmp(control, "PIGK", 4) != 0 || control[4] != 1 || control[6] != 1)
+        return 0;
+    if (control[DEPTH_AT] < 1 || control[DEPTH_AT] > 3 || control[COUNT_AT] > QUEUE)
+        return 0;
+    for (unsigned j = 0; j < control[COUNT_AT]; j++)
+        if (get64(control + QUEUE_AT + PLACE * j) >= maps[control[DEPTH_AT]].cells)
+            return 0;
+    return 1;
+}
+
+// ---- Answers ----
+
+static uint32_t answer(uint8_t *numbers, uint32_t code, uint64_t stores, uint64_t first, uint64_t second)
+{
+    put64(numbers + NV_STORES_AT, stores);
+    put64(numbers + NV_FIRST_AT, first);
+    put64(numbers + NV_SECOND_AT, second);
+    return code;
+}
+
+static uint32_t refuse(uint8_t *numbers, uint32_t refusal)
+{
+    return answer(numbers, NV_REFUSED + refusal, 0, 0, 0);
+}
+
+// The checks with which read, write and recovery start: a refusal or 0.
+static uint32_t open_module(module *m, size_t keys_len, size_t control_len, size_t array_len, size_t cache_len)
+{
+    if (keys_len != NV_KEYS_LENGTH)
+        return NV_BAD_KEYS_LENGTH;
+    if (control_len != NV_CONTROL_LENGTH)
+        return NV_BAD_CONTROL_LENGTH;
+    if (!control_valid(m->control))
+        return NV_BAD_CONTROL;
+    m->depth = m->control[DEPTH_AT];
+    m->map = &maps[m->depth];
+    if (array_len != CELL * (size_t)m->map->cells)
+        return NV_BAD_ARRAY_LENGTH;
+    return cache_len != SLOT * (size_t)m->map->slots ? NV_BAD_CACHE_LENGTH : 0;
+}
+
+// The further checks of read and write before the path.
+static uint32_t open_line(const module *m, uint64_t line, size_t buffer_len)
+{
+    if (buffer_len != NV_TEXT_LENGTH)
+        return NV_BAD_BUFFER_LENGTH;
+    if (line >= m->map->node[0])
+        return NV_BAD_LINE;
+    if (m->control[COUNT_AT] != 0)
+        return NV_PENDING;
+    return cache_formed(m, m->cache) ? 0 : NV_BAD_CACHE;
+}
+
+// ---- Path ----
+
+// Finds the path of a page, top first; the level of a missing node with a wrong tag, or -1.
+static int find_path(const module *m, uint64_t page, path *p)
+{
+    const uint8_t *tag = m->control + ROOT_AT;
+    p->loaded = 0;
+    for (int l = (int)m->depth; l >= 0; l--) {
+        uint64_t index = page >> 3 * l;
+        uint8_t *slot = m->cache + SLOT * slot_of((unsigned)l, index);
+        p->slot[l] = slot;
+        if (get64(slot) == index + 1) {
+            p->content[l] = slot + CONTENT_AT;
+        } else {
+            p->content[l] = node_cell(m, (unsigned)l, index);
+            if (node_tag(m, p->content[l], (unsigned)l, index) != get64(tag))
+                return l;
+            p->loaded |= 1u << l;
+        }
+        if (l > 0)
+            tag = p->content[l] + 8 * (page >> 3 * (l - 1) & 7);
+    }
+    return -1;
+}
+
+static uint8_t *queue_place(const module *m, unsigned j)
+{
+    return m->control + QUEUE_AT + PLACE * j;
+}
+
+// Stages the cells that loading takes, as far as the allowance lets; how many they are.
+static unsigned stage_path(const module *m, uint64_t page, const path *p, uint64_t allowance)
+{
+    unsigned j = 0;
+    for (int l = (int)m->depth; l >= 0; l--) {
+        if (!(p->loaded >> l & 1))
+            continue;
+        uint64_t index = page >> 3 * l;
+        uint8_t *at = queue_place(m, j);
+        if (p->slot[l][DIRTY_AT]) {
+            if (j < allowance) {
+                put64(at, m->map->node[l] + get64(p->slot[l]) - 1);
+                memcpy(at + 8, p->slot[l] + CONTENT_AT, CONTENT);
+                memset(at + 8 + CONTENT, 0, 8);
+                ordered();
+            }
+            at = queue_place(m, ++j);
+        }
+        if (j < allowance) {
+            put64(at, m->map->shadow + slot_of((unsigned)l, index));
+            put64(at + 8, index + 1);
+            memset(at + 16, 0, CELL - 8);
+            ordered();
+        }
+        j++;
+    }
+    return j;
+}
+
+// Loaded nodes become clean slots.
+static void load_slots(uint64_t page, const path *p, unsigned depth)
+{
+    for (unsigned l = 0; l <= depth; l++)
+        if (p->loaded >> l & 1) {
+            put64(p->slot[l], (page >> 3 * l) + 1);
+            p->slot[l][DIRTY_AT] = 0;
+            memcpy(p->slot[l] + CONTENT_AT, p->content[l], CONTENT);
+        }
+}
+
+// ---- Stores ----
+
+// The last m + 2 stores of a batch, from its queue, as far as the allowance lets; how many were made.
+static uint64_t finish(const module *m, unsigned count, uint64_t allowance)
+{
+    for (unsigned j = 0; j < count; j++) {
+        if (allowance == j)
+            return j;
+        memcpy(m->array + CELL * get64(queue_place(m, j)), queue_place(m, j) + 8, CELL);
+        ordered();
+    }
+    if (allowance == count)
+        return count;
+    memcpy(m->control + ROOT_AT, m->control + NEW_ROOT_AT, 8);
+    ordered();
+    if (allowance == count + 1)
+        return count + 1;
+    m->control[COUNT_AT] = 0;
+    ordered();
+    return count + 2;
+}
+
+// The stores of a batch that is staged as far as the allowance lets.
+static uint64_t run_batch(const module *m, unsigned count, uint64_t root, uint64_t allowance)
+{
+    if (count == 0 || allowance <= count)
+        return count == 0 ? 0 : allowance;
+    put64(m->control + NEW_ROOT_AT, root);
+    ordered();
+    m->control[COUNT_AT] = (uint8_t)count;
+    ordered();
+    return count + 1 + finish(m, count, allowance - count - 1);
+}
+
+static uint64_t stores_needed(unsigned count)
+{
+    return count == 0 ? 0 : 2 * (uint64_t)count + 3;
+}
+
+// ---- The calls ----
+
+uint32_t NAME(format)(uint64_t depth, const uint8_t *keys, size_t keys_len, uint8_t *control, size_t control_len,
+                      uint8_t *array, size_t array_len, uint8_t *cache, size_t cache_len, uint8_t *numbers,
+                      size_t numbers_len)
+{
+    if (numbers_len != NV_NUMBERS_LENGTH)
+        return NV_REFUSED + NV_BAD_BUFFER_LENGTH;
+    if (depth < 1 || depth > 3)
+        return refuse(numbers, NV_BAD_DEPTH);
+    if (keys_len != NV_KEYS_LENGTH)
+        return refuse(numbers, NV_BAD_KEYS_LENGTH);
+    if (control_len != NV_CONTROL_LENGTH)
+        return refuse(numbers, NV_BAD_CONTROL_LENGTH);
+    module m = { keys, control, array, cache, &maps[depth], (unsigned)depth };
+    if (array_len != CELL * (size_t)m.map->cells)
+        return refuse(numbers, NV_BAD_ARRAY_LENGTH);
+    if (cache_len != SLOT * (size_t)m.map->slots)
+        return refuse(numbers, NV_BAD_CACHE_LENGTH);
+    memset(array, 0, array_len);
+    memset(cache, 0, cache_len);
+    memset(control, 0, control_len);
+    for (unsigned l = 0; l < depth; l++)
+        for (uint64_t i = 0; i < (uint64_t)1 << 3 * (depth - l); i++)
+            put64(node_cell(&m, l + 1, i / 8) + 8 * (i % 8), node_tag(&m, node_cell(&m, l, i), l, i));
+    memcpy(control, "PIGK\1", 5);
+    control[DEPTH_AT] = (uint8_t)depth;
+    control[DEPTH_AT + 1] = 1;
+    put64(control + ROOT_AT, node_tag(&m, node_cell(&m, m.depth, 0), m.depth, 0));
+    return answer(numbers, NV_DONE, 0, 0, 0);
+}
+
+uint32_t NAME(read)(const uint8_t *keys, size_t keys_len, uint8_t *control, size_t control_len, uint8_t *array,
+                    size_t array_len, uint8_t *cache, size_t cache_len, uint64_t line, uint8_t *out, size_t out_len,
+                    uint64_t allowance, uint8_t *numbers, size_t numbers_len)
+{
+    if (numbers_len != NV_NUMBERS_LENGTH)
+        return NV_REFUSED + NV_BAD_BUFFER_LENGTH;
+    module m = { keys, control, array, cache, 0, 0 };
+    uint32_t refusal = open_module(&m, keys_len, control_len, array_len, cache_len);
+    if (!refusal)
+        refusal = open_line(&m, line, out_len);
+    if (refusal)
+        return refuse(numbers, refusal);
+    path p;
+    uint64_t page = line / 64;
+    int bad = find_path(&m, page, &p);
+    if (bad >= 0)
+        return answer(numbers, NV_REFUSED + NV_BAD_NODE, 0, (uint64_t)bad, page >> 3 * bad);
+    uint32_t minor = minor_of(p.content[0], line % 64);
+    const uint8_t *cell = array + CELL * line;
+    if (minor && data_side(&m, cell, line, p.content[0], minor) != get64(cell + CONTENT))
+        return answer(numbers, NV_REFUSED + NV_BAD_DATA, 0, line, 0);
+    unsigned count = stage_path(&m, page, &p, allowance);
+    uint64_t stores = run_batch(&m, count, get64(control + ROOT_AT), allowance);
+    if (stores < stores_needed(count))
+        return answer(numbers, NV_CUT, stores, 0, 0);
+    load_slots(page, &p, m.depth);
+    if (minor)
+        cipher(&m, line, p.content[0], minor, cell, out);
+    else
+        memset(out, 0, CONTENT);
+    return answer(numbers, minor ? NV_DONE : NV_BLANK, stores, 0, 0);
+}
+
+// The tags of the page's path over a renewed counter block, level by level; the last is the new root.
+static void renew(const module *m, uint64_t page, const path *p, uint8_t block[80], uint64_t tags[LEVELS])
+{
+    uint8_t message[80];
+    tags[0] = tag_in(m, block, 0, page);
+    for (unsigned l = 1; l <= m->depth; l++) {
+        memcpy(message, p->content[l], CONTENT);
+        put64(message + 8 * (page >> 3 * (l - 1) & 7), tags[l - 1]);
+        tags[l] = tag_in(m, message, l, page >> 3 * l);
+    }
+}
+
+static unsigned stage_block(const module *m, uint64_t page, const uint8_t *block, unsigned j, uint64_t allowance)
+{
+    uint8_t *at = queue_place(m, j);
+    if (j < allowance) {
+        put64(at, m->map->node[0] + page);
+        memcpy(at + 8, block, CONTENT);
+        memset(at + 8 + CONTENT, 0, 8);
+        ordered();
+    }
+    return j + 1;
+}
+
+static unsigned stage_data(const module *m, uint64_t line, const uint8_t *block, uint32_t minor, const uint8_t *text,
+                           unsigned j, uint64_t allowance)
+{
+    uint8_t *at = queue_place(m, j);
+    if (j < allowance) {
+        put64(at, line);
+        cipher(m, line, block, minor, text, at + 8);
+        put64(at + 8 + CONTENT, data_side(m, at + 8, line, block, minor));
+        ordered();
+    }
+    return j + 1;
+}
+
+uint32_t NAME(write)(const uint8_t *keys, size_t keys_len, uint8_t *control, size_t control_len, uint8_t *array,
+                     size_t array_len, uint8_t *cache, size_t cache_len, uint64_t line, const uint8_t *text,
+                     size_t text_len, uint64_t allowance, uint8_t *numbers, size_t numbers_len)
+{
+    if (numbers_len != NV_NUMBERS_LENGTH)
+        return NV_REFUSED + NV_BAD_BUFFER_LENGTH;
+    module m = { keys, control, array, cache, 0, 0 };
+    uint32_t refusal = open_module(&m, keys_len, control_len, array_len, cache_len);
+    if (!refusal)
+        refusal = open_line(&m, line, text_len);
+    if (refusal)
+        return refuse(numbers, refusal);
+    path p;
+    uint64_t page = line / 64, tags[LEVELS];
+    int bad = find_path(&m, page, &p);
+    if (bad >= 0)
+        return answer(numbers, NV_REFUSED + NV_BAD_NODE, 0, (uint64_t)bad, page >> 3 * bad);
+    uint32_t minor = minor_of(p.content[0], line % 64) + 1;
+    if (minor > MINOR_MAX)
+        return refuse(numbers, NV_WORN);
+    uint8_t block[80]; // the renewed counter block, with room for its tag's level and index
+    memcpy(block, p.content[0], CONTENT);
+    set_minor(block, line % 64, minor);
+    renew(&m, page, &p, block, tags);
+    unsigned count = stage_path(&m, page, &p, allowance);
+    if (minor % STOP_LOSS == 0)
+        count = stage_block(&m, page, block, count, allowance);
+    count = stage_data(&m, line, block, minor, text, count, allowance);
+    uint64_t stores = run_batch(&m, count, tags[m.depth], allowance);
+    if (stores < stores_needed(count))
+        return answer(numbers, NV_CUT, stores, 0, 0);
+    load_slots(page, &p, m.depth);
+    memcpy(p.slot[0] + CONTENT_AT, block, CONTENT);
+    p.slot[0][DIRTY_AT] = minor % STOP_LOSS != 0;
+    for (unsigned l = 1; l <= m.depth; l++) {
+        put64(p.slot[l] + CONTENT_AT + 8 * (page >> 3 * (l - 1) & 7), tags[l - 1]);
+        p.slot[l][DIRTY_AT] = 1;
+    }
+    return answer(numbers, NV_DONE, stores, 0, 0);
+}
+
+// ---- Recovery ----
+
+// A page's counter block with its minors brought forward by the phases of its data cells; whether all could be.
+static int rebuild_block(const module *m, uint64_t page, uint8_t *block, uint64_t *sum)
+{
+    const uint8_t *phase = m->array + CELL * 64 * page + CONTENT;
+    memcpy(block, node_cell(m, 0, page), CONTENT);
+    for (unsigned group = 0; group < 8; group++) {
+        uint8_t *at = block + 7 + 7 * group;
+        uint64_t minors = get64(at), step = 0;
+        for (unsigned shift = 8; shift < 64; shift += 7, phase += CELL) {
+            uint64_t minor = minors >> shift & 127, ahead = (*phase - minor) & 3;
+            if (*phase > 3 || minor + ahead > MINOR_MAX)
+                return 0;
+            step |= ahead << shift;
+            *sum += ahead;
+        }
+        put64(at, minors + step);
+    }
+    return 1;
+}
+
+// A node's content: its slot's in the cache that is built, else the array's.
+static const uint8_t *node_of(const module *m, const uint8_t *built, unsigned level, uint64_t index)
+{
+    const uint8_t *slot = built + SLOT * slot_of(level, index);
+    return get64(slot) == index + 1 ? slot + CONTENT_AT : node_cell(m, level, index);
+}
+
+// Builds the cache that the shadow lists; a refusal or 0.
+static uint32_t rebuild(const module *m, uint8_t *built, uint64_t *sum, uint64_t *place)
+{
+    const uint8_t *shadow = m->array + CELL * m->map->shadow;
+    uint64_t any = 0;
+    for (unsigned i = 0; i < m->map->slots; i++) {
+        uint64_t owner = get64(shadow + CELL * i);
+        *place = i;
+        if (!owner_fits(m, i, owner))
+            return NV_BAD_SHADOW;
+        any |= owner;
+        put64(built + SLOT * i, owner);
+        built[SLOT * i + DIRTY_AT] = owner != 0;
+        if (owner == 0)
+            memset(built + SLOT * i + CONTENT_AT, 0, CONTENT);
+    }
+    *place = slot_of(m->depth, 0);
+    if (any && get64(built + SLOT * *place) == 0)
+        return NV_BAD_SHADOW;
+    *place = 0;
+    for (unsigned i = 0; i < m->map->slots; i++) {
+        uint64_t owner = get64(built + SLOT * i), index = owner - 1;
+        uint8_t *content = built + SLOT * i + CONTENT_AT;
+        unsigned level = level_of(i);
+        if (owner == 0)
+            continue;
+        if (level == 0 && !rebuild_block(m, index, content, sum))
+            return NV_BAD_PHASE;
+        for (unsigned c = 0; level > 0 && c < 8; c++)
+            put64(content + 8 * c, node_tag(m, node_of(m, built, level - 1, 8 * index + c), level - 1, 8 * index + c));
+    }
+    uint64_t root = node_tag(m, node_of(m, built, m->depth, 0), m->depth, 0);
+    return root == get64(m->control + ROOT_AT) ? 0 : NV_BAD_ROOT;
+}
+
+uint32_t NAME(recover)(const uint8_t *keys, size_t keys_len, uint8_t *control, size_t control_len, uint8_t *array,
+                       size_t array_len, uint8_t *cache, size_t cache_len, uint64_t allowance, uint8_t *numbers,
+                       size_t numbers_len)
+{
+    if (numbers_len != NV_NUMBERS_LENGTH)
+        return NV_REFUSED + NV_BAD_BUFFER_LENGTH;
+    module m = { keys, control, array, cache, 0, 0 };
+    uint32_t refusal = open_module(&m, keys_len, control_len, array_len, cache_len);
+    if (refusal)
+        return refuse(numbers, refusal);
+    uint64_t stores = 0, sum = 0, place;
+    if (control[COUNT_AT] != 0) {
+        unsigned count = control[COUNT_AT];
+        stores = finish(&m, count, allowance);
+        if (stores < count + 2)
+            return answer(numbers, NV_CUT, stores, 0, 0);
+    }
+    uint8_t built[SLOT * SLOTS];
+    refusal = rebuild(&m, built, &sum, &place);
+    if (refusal)
+        return answer(numbers, NV_REFUSED + refusal, stores, place, 0);
+    memcpy(cache, built, cache_len);
+    return answer(numbers, NV_DONE, stores, sum, 0);
+}
+
+// ---- List of dirty pages ----
+
+uint32_t NAME(dirty_pages)(const uint8_t *control, size_t control_len, const uint8_t *cache, size_t cache_len,
+                           uint8_t *list, size_t list_len, uint8_t *numbers, size_t numbers_len)
+{
+    if (numbers_len != NV_NUMBERS_LENGTH)
+        return NV_REFUSED + NV_BAD_BUFFER_LENGTH;
+    if (control_len != NV_CONTROL_LENGTH)
+        return refuse(numbers, NV_BAD_CONTROL_LENGTH);
+    if (!control_valid(control))
+        return refuse(numbers, NV_BAD_CONTROL);
+    module m = { 0, 0, 0, 0, &maps[control[DEPTH_AT]], control[DEPTH_AT] };
+    if (cache_len != SLOT * (size_t)m.map->slots)
+        return refuse(numbers, NV_BAD_CACHE_LENGTH);
+    if (list_len != NV_LIST_LENGTH)
+        return refuse(numbers, NV_BAD_BUFFER_LENGTH);
+    if (!cache_formed(&m, cache))
+        return refuse(numbers, NV_BAD_CACHE);
+    uint8_t *end = list;
+    for (unsigned i = 0; i < 4; i++)
+        if (cache[SLOT * i + DIRTY_AT]) {
+            put64(end, get64(cache + SLOT * i) - 1);
+            end += 8;
+        }
+    memset(end, 0xff, (size_t)(list + NV_LIST_LENGTH - end));
+    return answer(numbers, NV_DONE, 0, 0, 0);
+}

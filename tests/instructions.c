@@ -1,0 +1,370 @@
+// What the machine code of the library does to array and control record, one instruction at a time.
+//
+// A child makes the call on memory that both share, and is stepped through it by ptrace. After each instruction: bytes
+// change only from what they are before the next store of the call to what they are after it, so the stores come in their
+// sequence, none before the one before it is whole, none left out, and nothing else changes. In the commit the count is
+// the last byte to change. And from the raw memory after each instruction that changed it, torn stores and all, a recovery
+// with another cache must be done and give every line's count and text as the book has them.
+#include "module.h"
+#include <signal.h>
+#include <sys/mman.h>
+#include <sys/ptrace.h>
+#include <sys/wait.h>
+#include <unistd.h>
+
+enum { STORES = 19, LINES_READ = 800, LONG = 1000000 };
+enum { ROOT_AT = 7, COUNT_AT = 15, NEW_ROOT_AT = 16, QUEUE_AT = 24, PLACE = 80, CELL = 72, SLOT = 73 };
+
+static const calls ours = CALLS_OF(nv_);
+
+// Control record and array lie one after the other, so that one comparison sees both.
+typedef struct {
+    uint8_t *whole[STORES + 1]; // both after each number of stores
+    unsigned stores, batch;     // how many the call makes; the cells of its batch, or STORES if it has no commit
+    uint64_t line;              // the line it writes, if it has a commit that commits a write
+    int writes;
+} listed;
+
+typedef struct {
+    uint8_t *text;  // of each line
+    uint8_t *count; // of each line
+} book;
+
+typedef struct {
+    long instructions, changes, recoveries;
+    const char *fault;
+} seen;
+
+static module live, trial;
+static size_t length;
+static uint8_t *last;
+static volatile uint32_t *answered;
+
+static void *shared(size_t n)
+{
+    void *p = mmap(NULL, n, PROT_READ | PROT_WRITE, MAP_SHARED | MAP_ANONYMOUS, -1, 0);
+    need(p != MAP_FAILED);
+    return p;
+}
+
+static void *owned(size_t n)
+{
+    void *p = malloc(n);
+    need(p != NULL);
+    return p;
+}
+
+static module joined(unsigned depth, void *(*get)(size_t))
+{
+    module m = make_module(&ours, depth, get);
+    m.control = get(NV_CONTROL_LENGTH + m.array_len);
+    m.array = m.control + NV_CONTROL_LENGTH;
+    return m;
+}
+
+// ---- What is expected ----
+
+// Whether each store is the paper's: the queue's places, the commit, the cells of the queue, the root, count 0. A recovery
+// starts after the commit, and makes no store if nothing is pending.
+static int in_sequence(const listed *l, unsigned cells, unsigned first)
+{
+    if (l->stores != (cells ? 2 * cells + 3 - first : 0))
+        return 0;
+    for (unsigned k = 0; k < l->stores; k++) {
+        const uint8_t *before = l->whole[k], *after = l->whole[k + 1], *from = after;
+        unsigned t = k + first;
+        size_t at = COUNT_AT, n = 1;
+        if (t < cells) {
+            at = QUEUE_AT + PLACE * t, n = PLACE, from = after + at;
+        } else if (t == cells) {
+            n = 9, from = after + at;
+        } else if (t <= 2 * cells) {
+            const uint8_t *place = before + QUEUE_AT + PLACE * (t - cells - 1);
+            uint64_t cell;
+            memcpy(&cell, place, 8);
+            at = NV_CONTROL_LENGTH + CELL * cell, n = CELL, from = place + 8;
+        } else if (t == 2 * cells + 1) {
+            at = ROOT_AT, n = 8, from = before + NEW_ROOT_AT;
+        }
+        int content = t == 2 * cells + 2 ? after[at] == 0 : memcmp(after + at, from, n) == 0;
+        if (!content || (t == cells && after[at] != cells) || memcmp(before, after, at) != 0
+            || memcmp(before + at + n, after + at + n, length - at - n) != 0)
+            return 0;
+    }
+    return 1;
+}
+
+// The memory after each store, by the same call under each allowance.
+static void list_stores(listed *l, const module *start, enum scenario s)
+{
+    for (l->stores = 0;; l->stores++) {
+        need(l->stores <= STORES);
+        copy_module(&trial, start);
+        memcpy(trial.text, start->text, NV_TEXT_LENGTH);
+        uint32_t code = run_scenario(&trial, s, l->stores);
+        memcpy(l->whole[l->stores], trial.control, length);
+        if (code != NV_CUT)
+            break;
+    }
+    need(recovers(s) ? in_sequence(l, start->control[COUNT_AT], start->control[COUNT_AT] + 1u)
+                     : l->stores == 0 || in_sequence(l, (l->stores - 3) / 2, 0));
+    l->batch = recovers(s) || l->stores == 0 ? STORES : (l->stores - 3) / 2;
+    l->writes = writes(s);
+    l->line = scenario_line(s, start->depth);
+}
+
+static unsigned minor_of(const module *m, uint64_t line)
+{
+    uint64_t page = line / 64, owner;
+    const uint8_t *slot = m->cache + SLOT * (page % 4);
+    memcpy(&owner, slot, 8);
+    const uint8_t *block = owner == page + 1 ? slot + 9 : m->array + CELL * (m->lines + page);
+    unsigned bit = 7 * (line % 64);
+    return (block[8 + bit / 8] | (bit / 8 < 55 ? block[9 + bit / 8] : 0) << 8) >> bit % 8 & 127;
+}
+
+static void keep_book(const book *b, const module *from)
+{
+    copy_module(&trial, from);
+    need(call_recover(&trial, UNLIMITED) == NV_DONE);
+    for (uint64_t line = 0; line < trial.lines; line++)
+        b->count[line] = (uint8_t)minor_of(&trial, line);
+    for (uint64_t line = 0; line < trial.lines; line++) {
+        need(call_read(&trial, line, UNLIMITED) == (b->count[line] ? NV_DONE : NV_BLANK));
+        memcpy(b->text + NV_TEXT_LENGTH * line, trial.out, NV_TEXT_LENGTH);
+    }
+}
+
+// ---- Recovery from raw memory ----
+
+static const char *line_fault(const book *b, const listed *l, int committed, uint64_t line)
+{
+    int changed = committed && l->writes && line == l->line;
+    const uint8_t *text = changed ? live.text : b->text + NV_TEXT_LENGTH * line;
+    unsigned count = b->count[line] + (unsigned)changed;
+    if (minor_of(&trial, line) != count)
+        return "after recovery a counter is not the book's";
+    if (call_read(&trial, line, UNLIMITED) != (count ? NV_DONE : NV_BLANK) || memcmp(trial.out, text, NV_TEXT_LENGTH) != 0)
+        return "after recovery a text is not the book's";
+    return NULL;
+}
+
+static const char *recovery_fault(const book *b, const listed *l, int committed, long turn)
+{
+    memcpy(trial.control, live.control, length);
+    for (size_t i = 0; i < trial.cache_len; i++)
+        trial.cache[i] = turn % 3 == 0 ? 0 : turn % 3 == 1 ? 0xff : (uint8_t)(i * i + (size_t)turn);
+    if (call_recover(&trial, UNLIMITED) != NV_DONE)
+        return "recovery from raw memory is not done";
+    uint64_t step = trial.lines / LINES_READ + 1;
+    const char *fault = line_fault(b, l, committed, l->line);
+    for (uint64_t line = (uint64_t)turn % step; line < trial.lines && !fault; line += step)
+        fault = line_fault(b, l, committed, line);
+    return fault;
+}
+
+// ---- One instruction after the other ----
+
+// Holds what an instruction changed to the next store; how many stores are whole after it.
+static unsigned check_change(const listed *l, unsigned made, seen *see)
+{
+    const uint8_t *now = live.control;
+    if (made == l->stores) {
+        see->fault = "a change after the last store";
+        return made;
+    }
+    const uint8_t *before = l->whole[made], *after = l->whole[made + 1];
+    for (size_t i = 0; i < length; i++)
+        if (now[i] != last[i] && (last[i] != before[i] || now[i] != after[i])) {
+            see->fault = "a change that is not the next store's";
+            return made;
+        }
+    int whole = memcmp(now, after, length) == 0;
+    if (made == l->batch && now[COUNT_AT] != last[COUNT_AT] && !whole)
+        see->fault = "the count is not the last byte of the commit to change";
+    while (made < l->stores && memcmp(now, l->whole[made + 1], length) == 0)
+        made++;
+    return made;
+}
+
+// Whether memory has changed since `last`. A long array's data cells, but for the line's own, are looked at now and then.
+static int differs(const listed *l, long turn)
+{
+    size_t data = CELL * live.lines, own = CELL * l->line;
+    if (length < LONG || turn % 256 == 0)
+        return memcmp(live.control, last, length) != 0;
+    const uint8_t *array = last + NV_CONTROL_LENGTH;
+    return memcmp(live.control, last, NV_CONTROL_LENGTH) != 0 || memcmp(live.array + own, array + own, CELL) != 0
+        || memcmp(live.array + data, array + data, live.array_len - data) != 0;
+}
+
+static pid_t start_child(enum scenario s)
+{
+    pid_t child = fork();
+    need(child >= 0);
+    if (child == 0) {
+        if (ptrace(PTRACE_TRACEME, 0, NULL, NULL) != 0)
+            _exit(1);
+        raise(SIGSTOP);
+        *answered = run_scenario(&live, s, UNLIMITED);
+        _exit(0);
+    }
+    int status;
+    need(waitpid(child, &status, 0) == child && WIFSTOPPED(status));
+    need(ptrace(PTRACE_SETOPTIONS, child, NULL, PTRACE_O_EXITKILL) == 0);
+    return child;
+}
+
+// Steps a child through the call. `live` has its start, `l` its stores; `each` is told of every raw state.
+static void step_through(enum scenario s, const listed *l, seen *see, void (*each)(const listed *, unsigned made, seen *))
+{
+    unsigned made = 0;
+    int status;
+    while (made < l->stores && memcmp(live.control, l->whole[made + 1], length) == 0)
+        made++;
+    memcpy(last, live.control, length);
+    *answered = UINT32_MAX;
+    pid_t child = start_child(s);
+    for (;;) {
+        need(ptrace(PTRACE_SINGLESTEP, child, NULL, NULL) == 0);
+        need(waitpid(child, &status, 0) == child);
+        if (!WIFSTOPPED(status))
+            break;
+        see->instructions++;
+        if (see->fault || !differs(l, see->instructions))
+            continue;
+        see->changes++;
+        made = check_change(l, made, see);
+        memcpy(last, live.control, length);
+        if (!see->fault)
+            each(l, made, see);
+    }
+    if (!see->fault && memcmp(live.control, last, length) != 0)
+        see->fault = "a change beside the stores";
+    if (!see->fault && (made != l->stores || *answered != scenario_code(s)))
+        see->fault = "stores were left out, or another answer";
+}
+
+static book kept;
+
+static int committed(const listed *l, unsigned made)
+{
+    return made > l->batch;
+}
+
+static void recover_each(const listed *l, unsigned made, seen *see)
+{
+    see->recoveries++;
+    see->fault = recovery_fault(&kept, l, committed(l, made), see->changes);
+}
+
+// ---- Recovery, itself stepped through, from every raw state of a call ----
+
+static struct {
+    uint8_t *memory;
+    int committed;
+} *raw;
+static unsigned raws;
+
+static void keep_each(const listed *l, unsigned made, seen *see)
+{
+    (void)see;
+    raw = realloc(raw, (raws + 1) * sizeof *raw);
+    need(raw != NULL);
+    raw[raws].memory = owned(length);
+    memcpy(raw[raws].memory, live.control, length);
+    raw[raws++].committed = committed(l, made);
+}
+
+static int tell(const char *what, unsigned depth, const listed *l, const seen *see)
+{
+    printf("instructions: depth %u: %-24s %3u stores, %6ld instructions, %4ld raw states%s%s\n", depth, what, l->stores,
+           see->instructions, see->changes, see->fault ? ": FAILED: " : "", see->fault ? see->fault : "");
+    return see->fault != NULL;
+}
+
+static void make_listed(listed *l)
+{
+    for (int k = 0; k <= STORES; k++)
+        l->whole[k] = owned(length);
+}
+
+static void set_up(unsigned depth)
+{
+    live = joined(depth, shared);
+    trial = joined(depth, owned);
+    length = NV_CONTROL_LENGTH + live.array_len;
+    last = owned(length);
+    kept = (book){ owned(NV_TEXT_LENGTH * live.lines), owned(live.lines) };
+}
+
+// What lies in the queue before must not look like what is staged there.
+static void start(enum scenario s)
+{
+    prepare(&live, s);
+    for (int i = NEW_ROOT_AT; i < NV_CONTROL_LENGTH && live.control[COUNT_AT] == 0; i++)
+        live.control[i] = (uint8_t)(0x80 | i * 3);
+}
+
+static int one(enum scenario s, unsigned depth)
+{
+    listed l;
+    seen see = { 0 };
+    make_listed(&l);
+    start(s);
+    keep_book(&kept, &live);
+    list_stores(&l, &live, s);
+    need(s != FULL_WRITE || l.batch == 2 * depth + 2);
+    step_through(s, &l, &see, recover_each);
+    for (int k = 0; k <= STORES; k++)
+        free(l.whole[k]);
+    return tell(scenario_names[s], depth, &l, &see);
+}
+
+static int again(enum scenario s, unsigned depth)
+{
+    listed l, repair;
+    seen see = { 0 }, all = { 0 };
+    book before = kept, after = { owned(NV_TEXT_LENGTH * live.lines), owned(live.lines) };
+    make_listed(&l);
+    make_listed(&repair);
+    start(s);
+    keep_book(&before, &live);
+    list_stores(&l, &live, s);
+    raws = 0;
+    step_through(s, &l, &see, keep_each);
+    keep_book(&after, &live);
+    all.fault = see.fault;
+    for (unsigned i = 0; i < raws && !all.fault; i++) {
+        memcpy(live.control, raw[i].memory, length);
+        memset(live.cache, 0x6b, live.cache_len);
+        kept = raw[i].committed ? after : before;
+        list_stores(&repair, &live, IDLE_RECOVERY);
+        step_through(IDLE_RECOVERY, &repair, &see, recover_each);
+        all.instructions += see.instructions;
+        all.changes += see.changes;
+        all.fault = see.fault;
+        see = (seen){ 0 };
+    }
+    for (unsigned i = 0; i < raws; i++)
+        free(raw[i].memory);
+    kept = before;
+    return tell("recovery from each", depth, &l, &all);
+}
+
+int main(void)
+{
+    static const enum scenario tried[] = { FIRST_READ, EVICTING_READ, CACHED_WRITE, STOP_LOSS_WRITE, EVICTING_WRITE,
+                                           FULL_WRITE, IDLE_RECOVERY, SMALL_RECOVERY, FULL_RECOVERY };
+    int passed = 0, failed = 0;
+    answered = shared(4);
+    for (unsigned depth = 1; depth <= 3; depth++) {
+        set_up(depth);
+        for (size_t i = 0; i < sizeof tried / sizeof *tried; i++)
+            one(tried[i], depth) ? failed++ : passed++;
+        if (depth == 1)
+            again(EVICTING_WRITE, depth) ? failed++ : passed++;
+    }
+    printf("instructions: %d passed, %d failed\n", passed, failed);
+    return failed != 0;
+}

@@ -1,0 +1,226 @@
+// A module in its buffers, calls on it, and the states that the C tests and the benchmark start from.
+#ifndef MODULE_H
+#define MODULE_H
+
+#include "../include/nightvelvet.h"
+#include <stdio.h>
+#include <stdlib.h>
+#include <string.h>
+
+#define UNLIMITED UINT64_MAX
+
+// One implementation of the header.
+typedef struct {
+    __typeof__(nv_format) *format;
+    __typeof__(nv_read) *read;
+    __typeof__(nv_write) *write;
+    __typeof__(nv_recover) *recover;
+    __typeof__(nv_dirty_pages) *dirty_pages;
+} calls;
+
+#define CALLS_OF(prefix) { prefix##format, prefix##read, prefix##write, prefix##recover, prefix##dirty_pages }
+
+typedef struct {
+    const calls *by;
+    unsigned depth;
+    uint64_t lines;
+    size_t array_len, cache_len;
+    uint8_t *control, *array, *cache, *out, *text, *list, *numbers;
+} module;
+
+static const uint8_t keys[NV_KEYS_LENGTH] = {
+    0, 1, 2, 3, 4, 5, 6, 7, 8, 9, 10, 11, 12, 13, 14, 15, 16, 17, 18, 19, 20, 21, 22, 23,
+    24, 25, 26, 27, 28, 29, 30, 31, 32, 33, 34, 35, 36, 37, 38, 39, 40, 41, 42, 43, 44, 45, 46, 47,
+};
+
+static inline module sizes_of(const calls *by, unsigned depth)
+{
+    static const size_t arrays[] = { 0, NV_ARRAY_LENGTH_1, NV_ARRAY_LENGTH_2, NV_ARRAY_LENGTH_3 };
+    static const size_t caches[] = { 0, NV_CACHE_LENGTH_1, NV_CACHE_LENGTH_2, NV_CACHE_LENGTH_3 };
+    static const uint64_t lines[] = { 0, NV_LINES_1, NV_LINES_2, NV_LINES_3 };
+    return (module){ .by = by, .depth = depth, .lines = lines[depth], .array_len = arrays[depth], .cache_len = caches[depth] };
+}
+
+// Gives a module buffers from `get`.
+static inline module make_module(const calls *by, unsigned depth, void *(*get)(size_t))
+{
+    module m = sizes_of(by, depth);
+    m.control = get(NV_CONTROL_LENGTH);
+    m.array = get(m.array_len);
+    m.cache = get(m.cache_len);
+    m.out = get(NV_TEXT_LENGTH);
+    m.text = get(NV_TEXT_LENGTH);
+    m.list = get(NV_LIST_LENGTH);
+    m.numbers = get(NV_NUMBERS_LENGTH);
+    return m;
+}
+
+static inline void copy_module(const module *to, const module *from)
+{
+    memcpy(to->control, from->control, NV_CONTROL_LENGTH);
+    memcpy(to->array, from->array, from->array_len);
+    memcpy(to->cache, from->cache, from->cache_len);
+}
+
+static inline uint64_t number_at(const module *m, int at)
+{
+    uint64_t x = 0;
+    for (int i = 7; i >= 0; i--)
+        x = x << 8 | m->numbers[at + i];
+    return x;
+}
+
+static inline uint32_t call_format(const module *m)
+{
+    return m->by->format(m->depth, keys, sizeof keys, m->control, NV_CONTROL_LENGTH, m->array, m->array_len, m->cache, m->cache_len,
+                         m->numbers, NV_NUMBERS_LENGTH);
+}
+
+static inline uint32_t call_read(const module *m, uint64_t line, uint64_t allowance)
+{
+    return m->by->read(keys, sizeof keys, m->control, NV_CONTROL_LENGTH, m->array, m->array_len, m->cache, m->cache_len, line,
+                       m->out, NV_TEXT_LENGTH, allowance, m->numbers, NV_NUMBERS_LENGTH);
+}
+
+static inline uint32_t call_write(const module *m, uint64_t line, uint64_t allowance)
+{
+    return m->by->write(keys, sizeof keys, m->control, NV_CONTROL_LENGTH, m->array, m->array_len, m->cache, m->cache_len, line,
+                        m->text, NV_TEXT_LENGTH, allowance, m->numbers, NV_NUMBERS_LENGTH);
+}
+
+static inline uint32_t call_recover(const module *m, uint64_t allowance)
+{
+    return m->by->recover(keys, sizeof keys, m->control, NV_CONTROL_LENGTH, m->array, m->array_len, m->cache, m->cache_len,
+                          allowance, m->numbers, NV_NUMBERS_LENGTH);
+}
+
+static inline uint32_t call_dirty_pages(const module *m)
+{
+    return m->by->dirty_pages(m->control, NV_CONTROL_LENGTH, m->cache, m->cache_len, m->list, NV_LIST_LENGTH, m->numbers,
+                              NV_NUMBERS_LENGTH);
+}
+
+// ---- States and the call that each is for ----
+
+enum scenario {
+    CACHED_READ, BLANK_READ, FIRST_READ, EVICTING_READ, CACHED_WRITE, STOP_LOSS_WRITE, EVICTING_WRITE, FULL_WRITE,
+    IDLE_RECOVERY, SMALL_RECOVERY, FULL_RECOVERY, FORMAT, DIRTY_PAGES, SCENARIOS,
+};
+
+static const char *const scenario_names[SCENARIOS] = {
+    "read of a cached line", "blank read", "blank read, empty cache", "read with eviction", "write to a cached line",
+    "stop-loss write", "write with eviction", "write, full batch", "recovery, full shadow", "recovery, one pending",
+    "recovery, full batch", "format", "list of dirty pages",
+};
+
+enum { NEAR = 5 };
+
+// A line whose path needs the slots that the path of NEAR has, below the top.
+static inline uint64_t far_line(unsigned depth)
+{
+    return 64 * (depth == 1 ? 4 : 2 * ((uint64_t)1 << 3 * (depth - 1)));
+}
+
+static inline void broken(const char *file, int line, const char *what)
+{
+    fprintf(stderr, "%s:%d: does not hold: %s\n", file, line, what);
+    abort();
+}
+
+// What a test rests on.
+#define need(holds) ((holds) ? (void)0 : broken(__FILE__, __LINE__, #holds))
+
+static inline void put_lines(const module *m, uint64_t line, int times)
+{
+    for (; times > 0; times--) {
+        memset(m->text, (int)(line + (unsigned)times) & 255, NV_TEXT_LENGTH);
+        need(call_write(m, line, UNLIMITED) == NV_DONE);
+    }
+}
+
+// Every slot that can be filled is, and dirty.
+static inline void fill_slots(const module *m)
+{
+    for (uint64_t page = 0; page < 4; page++)
+        put_lines(m, 64 * page, 1);
+    if (m->depth > 1)
+        put_lines(m, 64 * (8 + 1), 2);
+    if (m->depth > 2)
+        put_lines(m, 64 * (64 + 8 + 2), 3);
+}
+
+// The line that a scenario's call reads or writes.
+static inline uint64_t scenario_line(enum scenario s, unsigned depth)
+{
+    return s == EVICTING_READ || s == EVICTING_WRITE || s == FULL_WRITE || s == FULL_RECOVERY ? far_line(depth) : NEAR;
+}
+
+static inline void prepare(const module *m, enum scenario s)
+{
+    uint64_t far = far_line(m->depth);
+    need(call_format(m) == NV_DONE);
+    if (s == CACHED_READ || s == CACHED_WRITE || s == SMALL_RECOVERY || s == DIRTY_PAGES)
+        put_lines(m, NEAR, 1);
+    if (s == STOP_LOSS_WRITE)
+        put_lines(m, NEAR, 3);
+    if (s == BLANK_READ)
+        put_lines(m, NEAR + 1, 1);
+    if (s == EVICTING_READ || s == EVICTING_WRITE) {
+        put_lines(m, far, 1);
+        put_lines(m, NEAR, 1);
+    }
+    if (s == FULL_WRITE || s == FULL_RECOVERY) {
+        put_lines(m, far, 3);
+        put_lines(m, NEAR, 1);
+    }
+    if (s == IDLE_RECOVERY)
+        fill_slots(m);
+    memset(m->text, 0xe7, NV_TEXT_LENGTH);
+    if (s == SMALL_RECOVERY) // cut after the commit of a batch of one cell
+        need(call_write(m, NEAR, 2) == NV_CUT && m->control[15] == 1);
+    if (s == FULL_RECOVERY) // cut after the commit of a batch of 2h + 2 cells
+        need(call_write(m, far, 2 * m->depth + 3) == NV_CUT && m->control[15] == 2 * m->depth + 2);
+}
+
+static inline int recovers(enum scenario s)
+{
+    return s == IDLE_RECOVERY || s == SMALL_RECOVERY || s == FULL_RECOVERY;
+}
+
+static inline int writes(enum scenario s)
+{
+    return s == CACHED_WRITE || s == STOP_LOSS_WRITE || s == EVICTING_WRITE || s == FULL_WRITE;
+}
+
+static inline uint32_t run_scenario(const module *m, enum scenario s, uint64_t allowance)
+{
+    uint64_t line = scenario_line(s, m->depth);
+    switch (s) {
+    case CACHED_READ:
+    case BLANK_READ:
+    case FIRST_READ:
+    case EVICTING_READ:
+        return call_read(m, line, allowance);
+    case CACHED_WRITE:
+    case STOP_LOSS_WRITE:
+    case EVICTING_WRITE:
+    case FULL_WRITE:
+        return call_write(m, line, allowance);
+    case IDLE_RECOVERY:
+    case SMALL_RECOVERY:
+    case FULL_RECOVERY:
+        return call_recover(m, allowance);
+    case FORMAT:
+        return call_format(m);
+    default:
+        return call_dirty_pages(m);
+    }
+}
+
+// What the call of a scenario returns.
+static inline uint32_t scenario_code(enum scenario s)
+{
+    return s == BLANK_READ || s == FIRST_READ ? NV_BLANK : NV_DONE;
+}
+
+#endif

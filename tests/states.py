@@ -1,0 +1,282 @@
+"""Modules for the tests: real ones, damaged ones and arbitrary ones, and calls drawn for them."""
+
+from functools import lru_cache
+
+import model
+from model import CELL, CONTENT, SLOT_LENGTH, Module, UNLIMITED, number8
+
+KEYS = bytes(range(48))
+OTHER_PAD = bytes([255]) + KEYS[1:]
+OTHER_TAG = KEYS[:47] + bytes([255])
+ALLOWANCES = tuple(range(20)) + (20, 2**32 - 1, 2**32, 2**63, UNLIMITED)
+DEPTHS = (1, 2, 3)
+
+# The paper's bench listing.
+LISTING = "w 0 17,w 0 18,r 0,k 2,w 0 19,p,r 0,k 4,w 0 20,p,r 0,k 1,w 0 99,p,r 0,r 64".split(",")
+PRINTED = """w 0 done 9
+w 0 done 5
+r 0 done 0 18
+w 0 cut 2
+p done 3 3
+r 0 done 0 19
+w 0 cut 4
+p done 4 0
+r 0 done 0 20
+w 0 cut 1
+p done 0 0
+r 0 done 0 20
+r 64 blank 5 0""".split("\n")
+
+
+@lru_cache(maxsize=None)
+def formatted(depth, keys=KEYS):
+    return model.format_call(keys, depth, model.zero_module(depth))[1]
+
+
+def text_of(byte):
+    return bytes([byte % 256]) * CONTENT
+
+
+def patched(data, offset, piece):
+    return data[:offset] + piece + data[offset + len(piece):]
+
+
+def cell_patched(array, cell, offset, piece):
+    return patched(array, CELL * cell + offset, piece)
+
+
+def slot_patched(cache, slot, owner, dirty, content):
+    return patched(cache, SLOT_LENGTH * slot, number8(owner) + bytes([dirty]) + content)
+
+
+def written(module, *lines):
+    """The module after writes to these lines, each with a text of its own."""
+    for i, line in enumerate(lines):
+        answer, module = model.write_call(KEYS, line, text_of(line + i + 1), UNLIMITED, module)
+        assert answer.kind == "done", answer
+    return module
+
+
+def near(rng, length):
+    """A length that is not the right one, mostly close to it."""
+    other = rng.choice([0, 1, length - 1, length + 1, length - 8, length + 8, 2 * length, rng.randrange(2 * length + 1)])
+    return other if other >= 0 and other != length else length + 1
+
+
+def resized(rng, data):
+    length = near(rng, len(data))
+    return data[:length] + bytes(max(0, length - len(data)))
+
+
+# ---- Damage: each takes a module with right lengths and gives another ----
+
+def any_cell(rng, depth):
+    """A cell, half the time one behind the data cells."""
+    start = rng.choice([0, model.lines(depth)])
+    return rng.randrange(start, model.cells(depth))
+
+
+def with_bit_in_array(rng, depth, module):
+    at = CELL * any_cell(rng, depth) + rng.randrange(CELL)
+    return module._replace(array=patched(module.array, at, bytes([module.array[at] ^ 1 << rng.randrange(8)])))
+
+
+def with_bad_control(rng, depth, module):
+    at = rng.choice([0, 1, 2, 3, 4, 5, 6, 15, 24 + 80 * rng.randrange(8)])
+    control = patched(module.control, at, bytes([rng.randrange(256)]))
+    if at == 5 and control[5] in DEPTHS:
+        control = patched(control, 5, bytes([rng.choice([0, 4, 255])]))
+    return module._replace(control=control)
+
+
+def with_other_root(rng, depth, module):
+    at = rng.randrange(7, 24)
+    return module._replace(control=patched(module.control, at, bytes([module.control[at] ^ 1 << rng.randrange(8)])))
+
+
+def with_pending(rng, depth, module):
+    """A pending batch of any cells, some of them bad numbers."""
+    count = rng.randrange(1, 9)
+    queue = b""
+    for _ in range(count):
+        cell = any_cell(rng, depth)
+        if rng.randrange(40) == 0:
+            cell = rng.choice([model.cells(depth), 2**63, 2**64 - 1])
+        content = rng.choice([model.cell_at(module.array, min(cell, model.cells(depth) - 1)), rng.randbytes(CELL),
+                              bytes(CELL)])
+        queue += number8(cell) + content
+    root = rng.choice([module.control[7:15], rng.randbytes(8)])
+    return module._replace(control=patched(module.control, 15, bytes([count]) + root + queue))
+
+
+def with_bad_owner(rng, depth, module):
+    slot = rng.randrange(model.slots(depth))
+    owner = rng.choice([1, 2, 3, 4, 5, 8, 9, 64, 65, 513, 2**32 + 1, 2**63, 2**64 - 1, rng.randrange(600)])
+    return module._replace(cache=patched(module.cache, SLOT_LENGTH * slot, number8(owner)))
+
+
+def with_other_dirty(rng, depth, module):
+    slot = rng.randrange(model.slots(depth))
+    return module._replace(cache=patched(module.cache, SLOT_LENGTH * slot + 8, bytes([rng.choice([0, 1, 1, 2, 255])])))
+
+
+def owner_for(rng, depth, slot):
+    """An owner that belongs to a slot."""
+    level = model.level_of_slot(slot)
+    return rng.choice([i for i in range(model.nodes(depth, level)) if model.slot_of(level, i) == slot] or [-1]) + 1
+
+
+def with_other_slots(rng, depth, module):
+    """A formed cache in which some slots hold other nodes, dirty or clean, with any content."""
+    cache = module.cache
+    for slot in range(model.slots(depth)):
+        if rng.randrange(3) == 0 and slot != model.slot_of(depth, 0):
+            owner = owner_for(rng, depth, slot)
+            cache = slot_patched(cache, slot, owner, rng.randrange(2) if owner else 0, rng.randbytes(CONTENT))
+    top = model.slot_of(depth, 0)
+    if model.number_at(cache, SLOT_LENGTH * top) == 0:
+        cache = slot_patched(cache, top, 1, rng.randrange(2), model.array_node(depth, module.array, depth, 0))
+    return module._replace(cache=cache)
+
+
+def with_any_cache(rng, depth, module):
+    length = len(module.cache)
+    return module._replace(cache=rng.choice([bytes(length), rng.randbytes(length), b"\xff" * length]))
+
+
+def with_bad_shadow(rng, depth, module):
+    cell = model.shadow_cell(depth, rng.randrange(model.slots(depth)))
+    owner = rng.choice([0, 1, 2, 3, 4, 5, 8, 9, 64, 65, 513, 2**64 - 1, rng.randrange(600)])
+    return module._replace(array=cell_patched(module.array, cell, 0, number8(owner)))
+
+
+def with_other_phase(rng, depth, module):
+    """Another phase on some line, mostly of a page that the shadow lists."""
+    page = model.number_at(module.array, CELL * model.shadow_cell(depth, rng.randrange(4))) - 1
+    if not 0 <= page < model.pages(depth):
+        page = rng.randrange(model.pages(depth))
+    line = 64 * page + rng.randrange(64)
+    phase = rng.choice([0, 1, 2, 3, 4, 255])
+    return module._replace(array=cell_patched(module.array, line, CONTENT, bytes([phase])))
+
+
+def with_worn_line(rng, depth, module):
+    """A slot's counter block gets high minors, without a tag for it."""
+    slot = rng.randrange(4)
+    minors = [rng.choice([0, 3, 123, 126, 127]) for _ in range(64)]
+    block = model.counter_block(rng.choice([0, 0, 2**64 - 1]), minors)
+    return module._replace(cache=patched(module.cache, SLOT_LENGTH * slot + 9, block))
+
+
+DAMAGES = (with_bit_in_array, with_bad_control, with_other_root, with_pending, with_bad_owner, with_other_dirty,
+           with_other_slots, with_any_cache, with_bad_shadow, with_other_phase, with_worn_line)
+
+
+def damaged(rng, depth, module):
+    for _ in range(rng.choice([1, 1, 1, 2, 3])):
+        module = rng.choice(DAMAGES)(rng, depth, module)
+    return module
+
+
+# ---- Arbitrary states: no history leaves them ----
+
+def drawn_block(rng):
+    """A counter block with any major and minors."""
+    major = rng.choice([0, 0, 1, 2**32, 2**64 - 1, rng.randrange(2**64)])
+    style = rng.randrange(3)
+    minors = [0 if style == 0 and rng.randrange(4) else rng.choice([1, 2, 3, 4, 7, 125, 126, 127, rng.randrange(128)])
+              for _ in range(64)]
+    return model.counter_block(major, minors)
+
+
+def arbitrary(rng, depth, sealed=40):
+    """A module whose tree is sound over any counter blocks, with so many readable lines; the rest is any bytes."""
+    array = bytearray(rng.randbytes(model.array_length(depth)))
+    blocks = [drawn_block(rng) if rng.randrange(3) == 0 else bytes(CONTENT) for _ in range(model.pages(depth))]
+    tree = model.tree_over(KEYS, depth, blocks)
+    for level, contents in enumerate(tree):
+        for index, content in enumerate(contents):
+            at = CELL * model.node_cell(depth, level, index)
+            array[at:at + CONTENT] = content
+    for slot in range(model.slots(depth)):
+        owner = owner_for(rng, depth, slot) if rng.randrange(3) or slot == model.slot_of(depth, 0) else 0
+        at = CELL * model.shadow_cell(depth, slot)
+        array[at:at + 8] = number8(owner)
+    for line in range(model.lines(depth)):
+        minor = model.minors_of(blocks[line // 64])[line % 64]
+        array[CELL * line + CONTENT] = minor % 4
+    for _ in range(sealed):
+        line = rng.randrange(model.lines(depth))
+        block = blocks[line // 64]
+        minor = model.minors_of(block)[line % 64]
+        content = bytes(array[CELL * line:CELL * line + CONTENT])
+        side = model.data_side(KEYS, content, line, model.major_of(block), minor)
+        array[CELL * line + CONTENT:CELL * line + CELL] = side
+    root = model.node_tag(KEYS, tree[depth][0], depth, 0)
+    control = model.MARK + bytes([1, depth, 1]) + root + bytes([0]) + rng.randbytes(648)
+    return Module(bytes(array), control, bytes(model.cache_length(depth)))
+
+
+# ---- Calls ----
+
+def drawn_line(rng, depth, hot):
+    last = model.lines(depth)
+    return rng.choice([rng.choice(hot), rng.choice(hot), rng.choice(hot), rng.randrange(last), rng.randrange(last),
+                       rng.choice([0, 63, 64, last - 1])])
+
+
+def drawn_call(rng, depth, module, hot):
+    """A call with right lengths: (name, arguments)."""
+    name = rng.choice(("read",) * 6 + ("write",) * 8 + ("recover",) * 4 + ("dirty_pages",))
+    keys = KEYS if rng.randrange(60) else rng.choice([OTHER_PAD, OTHER_TAG])
+    allowance = UNLIMITED if rng.randrange(2) else rng.choice(ALLOWANCES)
+    line = drawn_line(rng, depth, hot)
+    if rng.randrange(80) == 0:
+        line = rng.choice([model.lines(depth), 2**32, 2**63, 2**64 - 1])
+    numbers = rng.randbytes(24)
+    control, array, cache = module.control, module.array, module.cache
+    if name == "read":
+        return name, (keys, control, array, cache, line, rng.randbytes(64), allowance, numbers)
+    if name == "write":
+        return name, (keys, control, array, cache, line, rng.randbytes(64), allowance, numbers)
+    if name == "recover":
+        return name, (keys, control, array, cache, allowance, numbers)
+    return name, (control, cache, rng.randbytes(32), numbers)
+
+
+def drawn_format(rng, depth, module):
+    wanted = depth if rng.randrange(4) else rng.choice([0, 1, 2, 3, 4, 2**32 + 1, 2**64 - 1])
+    keys = KEYS if rng.randrange(3) else rng.randbytes(48)
+    return "format", (wanted, keys, module.control, module.array, module.cache, rng.randbytes(24))
+
+
+def misshapen(rng, arguments):
+    """The same arguments with one to three slices of a wrong length."""
+    arguments = list(arguments)
+    places = [i for i, argument in enumerate(arguments) if not isinstance(argument, int)]
+    for _ in range(rng.choice([1, 1, 2, 3])):
+        place = rng.choice(places)
+        arguments[place] = resized(rng, arguments[place])
+    return tuple(arguments)
+
+
+# ---- Settled states: a sound tree in the array, nothing cached ----
+
+@lru_cache(maxsize=64)
+def settled(depth, lines=()):
+    """The module with a zero cache in whose array each (line, minor, text) stands written."""
+    counts = [[0] * 64 for _ in range(model.pages(depth))]
+    for line, minor, _ in lines:
+        counts[line // 64][line % 64] = minor
+    blocks = [model.counter_block(0, minors) for minors in counts]
+    tree = model.tree_over(KEYS, depth, blocks)
+    array = bytearray(model.array_length(depth))
+    for level, contents in enumerate(tree):
+        for index, content in enumerate(contents):
+            at = CELL * model.node_cell(depth, level, index)
+            array[at:at + CONTENT] = content
+    for line, minor, text in lines:
+        content = model.xor(text, model.pad(KEYS, line, 0, minor))
+        array[CELL * line:CELL * line + CELL] = content + model.data_side(KEYS, content, line, 0, minor)
+    root = model.node_tag(KEYS, tree[depth][0], depth, 0)
+    return formatted(depth)._replace(array=bytes(array), control=patched(formatted(depth).control, 7, root))

@@ -1,0 +1,150 @@
+"""Random calls through the library, each held to the model: code, numbers, every byte of every slice, guard bytes.
+
+States are real (reached by calls from a format, with cuts), damaged, and arbitrary. An argument is another seed.
+"""
+
+import random
+import sys
+from collections import Counter
+
+import model
+import states
+from library import Library, SLICES, Tally, in_parallel, numbers_of
+from model import Module
+
+CALLS = {1: 200000, 2: 20000, 3: 4000}
+PARTS = {1: 40, 2: 16, 3: 4}
+
+# The refusals of each call, as the paper lists them.
+REFUSALS = {
+    "format": (1, 2, 3, 4, 5),
+    "read": (2, 3, 21, 4, 5, 7, 6, 22, 23, 24, 25),
+    "write": (2, 3, 21, 4, 5, 7, 6, 22, 23, 24, 26),
+    "recover": (2, 3, 21, 4, 5, 27, 28, 29),
+    "dirty_pages": (3, 21, 5, 7, 23),
+}
+ANSWERS = {"format": (0,), "read": (0, 1, 2), "write": (0, 2), "recover": (0, 2), "dirty_pages": (0,)}
+
+
+def module_after(name, slices, module):
+    after = dict(zip(SLICES[name], slices))
+    return Module(after.get("array", module.array), after.get("control", module.control),
+                  after.get("cache", module.cache))
+
+
+class Walk:
+    """A row of calls from one seed."""
+
+    def __init__(self, depth, seed):
+        self.depth = depth
+        self.rng = random.Random(seed)
+        self.library = Library()
+        self.tally = Tally("library")
+        self.reached = Counter()
+        self.allowances = set()
+        self.stores = set()
+        self.start_anew()
+        self.strange = states.arbitrary(self.rng, depth)
+
+    def start_anew(self):
+        """A module of this history; now and then a line is nearly worn, or the module is an arbitrary one."""
+        self.module = states.formatted(self.depth)
+        self.hot = [self.rng.randrange(model.lines(self.depth)) for _ in range(6)]
+        if self.rng.randrange(4) == 0:
+            self.module = states.arbitrary(self.rng, self.depth)
+            self.hot += [64 * page for page in range(min(8, model.pages(self.depth)))]
+
+    def one(self):
+        rng = self.rng
+        style = rng.randrange(100)
+        module = self.module
+        if style < 30:
+            module = states.damaged(rng, self.depth, module)
+        elif style < 40:
+            module = states.damaged(rng, self.depth, self.strange) if style < 35 else self.strange
+        if rng.randrange(40) == 0:
+            name, arguments = states.drawn_format(rng, self.depth, module)
+        else:
+            name, arguments = states.drawn_call(rng, self.depth, module, self.hot)
+        shaped = rng.randrange(10) > 0
+        if not shaped:
+            arguments = states.misshapen(rng, arguments)
+        code, slices = self.tally.compare(self.library, name, arguments)
+        self.note(name, arguments, code, slices)
+        if shaped and style >= 40:
+            self.module = self.next_module(name, code, module_after(name, slices, module))
+
+    def note(self, name, arguments, code, slices):
+        self.reached[name, 7 if code == 107 and len(arguments[-1]) != 24 else code, len(arguments[-1]) == 24] += 1
+        if name in ("read", "write", "recover"):
+            self.allowances.add((name, arguments[-2]))
+            if code < 2:
+                self.stores.add(numbers_of(slices)[0])
+
+    def next_module(self, name, code, module):
+        """The state for the next call: after a cut, or when the module asks for it, mostly a recovered one."""
+        rng = self.rng
+        if name == "format" and code == 0:
+            return states.formatted(self.depth)
+        if code == 2 and rng.randrange(2):
+            module = states.with_any_cache(rng, self.depth, module)
+        if code in (122, 123, 124) and rng.randrange(3):
+            answer, module = model.recover_call(states.KEYS, model.UNLIMITED, module)
+            if answer.kind != "done":
+                self.start_anew()
+                return self.module
+        if rng.randrange(300) == 0:
+            self.start_anew()
+            return self.module
+        return module
+
+
+def part(job):
+    depth, seed, calls = job
+    walk = Walk(depth, seed)
+    for _ in range(calls):
+        walk.one()
+    return depth, walk.tally.passed, walk.tally.failed, walk.reached, walk.allowances, walk.stores
+
+
+def check_reached(tally, depth, reached, allowances, stores):
+    """Says which refusals each call reached, and holds that to the paper's lists."""
+    for name in SLICES:
+        got = {code - 100 for call, code, shaped in reached if call == name and shaped and code > 100}
+        answers = sorted(code for call, code, shaped in reached if call == name and shaped and code < 100)
+        missing = [number for number in REFUSALS[name] if number not in got]
+        tally.check(got == set(REFUSALS[name]), "depth %d: nv_%s gave refusals %s" % (depth, name, sorted(got)))
+        tally.check(answers == list(ANSWERS[name]), "depth %d: nv_%s gave codes %s" % (depth, name, answers))
+        tally.check(reached[name, 7, False] > 0, "depth %d: nv_%s with other numbers" % (depth, name))
+        print("library: depth %d: nv_%s: codes %s; refusals %s: %s" % (
+            depth, name, " ".join(map(str, answers)), " ".join(str(n) for n in REFUSALS[name] if n in got),
+            "missing %s" % missing if missing else "all that the paper lists"))
+    for name in ("read", "write", "recover"):
+        missing = [a for a in states.ALLOWANCES if (name, a) not in allowances]
+        tally.check(not missing, "depth %d: nv_%s not tried with allowances %s" % (depth, name, missing))
+    longest = 2 * (2 * depth + 2) + 3
+    tally.check(max(stores) == longest, "depth %d: at most %d stores, %d wanted" % (depth, max(stores), longest))
+    print("library: depth %d: calls with %d different numbers of stores, up to %d" % (depth, len(stores), max(stores)))
+
+
+def main():
+    seed = int(sys.argv[1], 0) if len(sys.argv) > 1 else 20261115
+    tally = Tally("library")
+    jobs = [(depth, seed * 1000 + 100 * depth + i, -(-CALLS[depth] // PARTS[depth]))
+            for depth in states.DEPTHS for i in range(PARTS[depth])]
+    reached = {depth: Counter() for depth in states.DEPTHS}
+    allowances = {depth: set() for depth in states.DEPTHS}
+    stores = {depth: set() for depth in states.DEPTHS}
+    for depth, passed, failed, codes, tried, made in in_parallel(part, jobs):
+        tally.add(passed, failed)
+        reached[depth] += codes
+        allowances[depth] |= tried
+        stores[depth] |= made
+    for depth in states.DEPTHS:
+        print("library: depth %d: %d calls held to the model" % (depth, sum(reached[depth].values())))
+        check_reached(tally, depth, reached[depth], allowances[depth], stores[depth])
+    tally.finish()
+
+
+if __name__ == "__main__":
+    main()
