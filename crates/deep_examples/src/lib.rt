@@ -1,1 +1,0 @@
-// A write and a recovery at depth 2, evaluated: they stand in proofs/.

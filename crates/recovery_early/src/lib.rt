@@ -1,1 +1,0 @@
-// Recovery from each cut of a write before its commit, evaluated: it stands in proofs/.

@@ -1,1 +1,0 @@
-// Each refusal reached by an evaluated example: they stand in proofs/.
