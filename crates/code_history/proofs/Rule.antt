@@ -1,0 +1,80 @@
+-- The history rule of the code. Assumes nothing.
+use mathlib.Core.Path.{_≡_, refl, sym, ap, ap₂, _∙_, subst, subst₂}
+use mathlib.Core.Bool.{false}
+use mathlib.Core.List.{List, [], _∷_, _++_}
+use Prim.Native.Nat.{ℕ, zero, suc}
+use lib.ListN.{length}
+use Rattle.answer.specs.declared.Answer.{Answer}
+use Rattle.answer.specs.declared.Answer.the-variants.{Done, Refused}
+use Rattle.calls.specs.Call.{Module, Called}
+use Rattle.calls.specs.Read.{Reading}
+use Rattle.calls.specs.Format.{format}
+use Rattle.calls.specs.Recovery.{recover}
+use Rattle.calls.specs.DirtyPages.{listRefusal, Lists, ListCall}
+use Rattle.calls.specs.History.{Event, recovers, step, listCall, AreBytes, Allowed, moduleAfter, bookOf, emptyBook, NotRefused, Restored, HistoryRule}
+use Rattle.history_laws.proofs.Rule.{history-rule}
+use Rattle.code_history.proofs.Steps.{
+  Formatted,
+  formatBefore,
+  formatAfter,
+  Recovered,
+  recoverBefore,
+  recoverAfter,
+  Step,
+  formatted,
+  read,
+  written,
+  recovered,
+  listed,
+  power,
+  Run,
+  none,
+  next,
+}
+
+-- a list of dirty pages changes nothing of the module
+list-step : (m : Module) (out : List ℕ) (a : Answer) (after : List ℕ) (n : ℕ)
+    → (elim n as (λ _. Type 0) [ zero ↦ (a ≡ Done 0 0) × Lists (m .cache) after | suc i ↦ (a ≡ Refused (suc i) 0 0 0) × (after ≡ out) ])
+    → listCall n m ≡ record { answer = a; after = m }
+unfolding listCall
+list-step m out a after zero s = ap (λ (x : Answer). record { answer = x; after = m }) (sym (s .0))
+list-step m out a after (suc n) s = ap (λ (x : Answer). record { answer = x; after = m }) (sym (s .0))
+
+-- each step is the one that is defined: the contract says so
+pub step-defined : {m n : Module} {e : Event} {a : Answer} → Step m e a n → step e m ≡ record { answer = a; after = n }
+unfolding step ListCall
+step-defined (formatted c) = sym (c .contract)
+step-defined (read c) = ap (λ (r : Reading). r .called) (sym (c .contract))
+step-defined (written c) = sym (c .contract)
+step-defined (recovered c) = sym (c .contract)
+step-defined (listed array c) = list-step _ _ _ _ (listRefusal (c .args .0 .now) (c .args .1 .0 .now) (c .args .1 .1 .0 .now)) (c .contract)
+step-defined (power m cache) = refl
+
+pub run-defined : {m n : Module} {es : List Event} → Run m es n → moduleAfter m es ≡ n
+unfolding moduleAfter
+run-defined (none m) = refl
+run-defined (next {es = es} s r) = ap (λ (x : Called). moduleAfter (x .after) es) (step-defined s) ∙ run-defined r
+
+-- in every run of the five functions from a format that is done, whose list of events is allowed: a recovery with the same keys is not refused,
+-- and one that is done restores what the book of the list up to it says
+pub code-history : (f : Formatted) → f .answer ≡ Done 0 0 → (m : Module) (es rest : List Event) → Run (formatAfter f) es m
+    → (r : Recovered) → recoverBefore r ≡ m
+    → let keys = f .args .1 .0 .now in let h = f .args .0 in
+    r .args .0 .now ≡ keys → AreBytes keys
+    → Allowed keys false (formatAfter f) (es ++ (recovers keys (r .args .1 .1 .1 .1 .0) ∷ rest))
+    → NotRefused (r .answer)
+    × ((k sum : ℕ) → r .answer ≡ Done k sum → Restored keys h (bookOf (formatAfter f) emptyBook es) (recoverAfter r) sum)
+unfolding HistoryRule
+code-history f done m es rest run r here same plain ok =
+    let keys = f .args .1 .0 .now in
+    let h = f .args .0 in
+    let allowance = r .args .1 .1 .1 .1 .0 in
+    let first = format keys h (formatBefore f) in
+    let start : first .after ≡ formatAfter f = ap (λ (x : Called). x .after) (sym (f .contract)) in
+    let last : moduleAfter (first .after) es ≡ recoverBefore r = ap (λ (x : Module). moduleAfter x es) start ∙ run-defined run ∙ sym here in
+    let end : recover keys allowance (moduleAfter (first .after) es) ≡ record { answer = r .answer; after = recoverAfter r } =
+    ap₂ {C = Called} (λ (k : List ℕ) (x : Module). recover k allowance x) (sym same) last ∙ sym (r .contract) in
+    subst₂ (λ (x : Called) (s : Module). NotRefused (x .answer)
+    × ((k sum : ℕ) → x .answer ≡ Done k sum → Restored keys h (bookOf s emptyBook es) (x .after) sum)) end start
+    (history-rule keys h (formatBefore f) es rest allowance plain (ap (λ (x : Called). x .answer) (sym (f .contract)) ∙ done)
+    (subst (λ (s : Module). Allowed keys false s (es ++ (recovers keys allowance ∷ rest))) (sym start) ok))

@@ -1,0 +1,1 @@
+// The history rule said of the code: no function of its own.
