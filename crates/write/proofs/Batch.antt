@@ -30,24 +30,21 @@ use Rattle.journal.proofs.Steps.{Ran}
 use Rattle.calls.specs.Path.{nodeCell, renewed, renewPath, renewedRoot}
 use Rattle.calls.specs.Call.{Module, Called, buffers, ended, storing}
 use Rattle.calls.specs.Read.{sideBytes}
+use Rattle.call_laws.specs.Line.{lineCell, blockCells, lineCells}
 use Rattle.call_laws.specs.Walk.{pathCells, withPath}
 use Rattle.call_laws.proofs.Loads.{Sound, sound-node, cells-sound}
 use Rattle.call_laws.proofs.Loading.{path-content, path-length}
 use Rattle.call_laws.proofs.Apart.{Other, node-avoids, stored-length, content-kept}
-use Rattle.call_laws.proofs.Staged.{Staged, staged-run}
-use Rattle.call_laws.proofs.Storing.{storing-cut, storing-done, all-told}
+use Rattle.call_laws.proofs.Line.{Lent, all-length, all-sound, block-few}
+use Rattle.call_laws.proofs.Staged.{Staged, stored, staged-cut, staged-done}
 use Rattle.path.proofs.Ready.{Ready, fit, few}
-use Rattle.write.specs.Parts.{lineCell, blockCells, lineCells, renewedTag, renewedBy}
-use Rattle.write.proofs.Laws.{line-cell-length}
+use Rattle.write.specs.Parts.{renewedTag, renewedBy}
 use Rattle.write.proofs.Held.{path-owners, path-over, renewed-over}
 
 pub cells-length : (h : ℕ) (keys c : List ℕ) (n : ℕ) (text : List ℕ) (ma mi : ℕ) (b : List ℕ)
     → length (lineCells h keys c n text ma mi b) ≡ length (pathCells h c (pageOf n) (suc h)) + length (blockCells h (pageOf n) mi b) + 1
 unfolding lineCells
-cells-length h keys c n text ma mi b =
-    let x = pathCells h c (pageOf n) (suc h) in
-    let y = blockCells h (pageOf n) mi b in
-    length-append (x ++ y) (lineCell keys n text ma mi ∷ []) ∙ ap (λ (m : ℕ). m + 1) (length-append x y)
+cells-length h keys c n text ma mi b = all-length h keys n text ma mi b (pathCells h c (pageOf n) (suc h))
 
 -- what is staged step by step: the path, the block, the data cell
 module _ (h : ℕ) (keys c : List ℕ) (n : ℕ) (text : List ℕ) (ma mi : ℕ) (b : List ℕ) (allowance : ℕ) (p : ℕ) (page : p ≡ pageOf n) where
@@ -74,14 +71,6 @@ module _ (h : ℕ) (keys c : List ℕ) (n : ℕ) (text : List ℕ) (ma mi : ℕ)
         omega (arith, length-append (x ++ y) (z ∷ [])),
       )
 
--- a line of the map, its text and the counter block to be
-pub record Lent (h n : ℕ) (text b : List ℕ) : Type 0 where
-  pub inside : n < lines h
-  pub full : length text ≡ 64
-  pub text-bytes : Below 256 text
-  pub wide : length b ≡ 64
-  pub block-bytes : Below 256 b
-
 module _ {h : ℕ} {a k c : List ℕ} {n : ℕ} (y : Ready h a k c (pageOf n)) (keys : List ℕ) {text b : List ℕ} (v : Lent h n text b) (ma mi : ℕ) where
   abbrev p : ℕ
   p = pageOf n
@@ -91,36 +80,15 @@ module _ {h : ℕ} {a k c : List ℕ} {n : ℕ} (y : Ready h a k c (pageOf n)) (
 
   -- ---- its cells are sound, and at most eight
 
-  data-sound : Sound h (lineCell keys n text ma mi)
-  unfolding lineCell InMap cellOf
-  data-sound =
-      let x = xorBytes text (pad keys n ma mi) in
-      record {
-        inside = cell-within h (line n) (v .inside);
-        size = line-cell-length keys n text ma mi (v .full);
-        bytes =
-            below-append x (sideBytes keys x n ma mi) (below-xor text (pad keys n ma mi) (v .text-bytes) (below-pad keys n ma mi))
-            (below-cons (omega arith) (below-digits 256 7 _ (lit< tt)));
-      }
-
-  block-sound : (t : Bool) → Each (Sound h) (cond t (nodeCell h 0 p b ∷ []) [])
-  block-sound true = more (sound-node h 0 p b (page-node h n (v .inside)) (v .wide) (v .block-bytes)) none
-  block-sound false = none
-
-  block-few : (t : Bool) → length (cond t (nodeCell h 0 p b ∷ []) []) ≤ 1
-  block-few true = le-refl 1
-  block-few false = zero-le
-
   batch-sound : Each (Sound h) cs
-  unfolding lineCells blockCells
+  unfolding lineCells
   batch-sound =
-      each-append (each-append (cells-sound h c (fit y) p (y .page) (suc h) (le-refl (suc h))) (block-sound (eqb (phaseOf mi) 0))) (more data-sound none)
+      all-sound h keys n text ma mi b (pathCells h c p (suc h)) v (cells-sound h c (fit y) p (y .page) (suc h) (le-refl (suc h)))
 
   pub batch-length : (1 ≤ length cs) × (length cs ≤ 8)
-  unfolding blockCells
   batch-length =
       let all = cells-length h keys c n text ma mi b in
-      (omega (arith, all), omega (arith, all, few y, y .sized .flat, block-few (eqb (phaseOf mi) 0)))
+      (omega (arith, all), omega (arith, all, few y, y .sized .flat, block-few h p mi b))
 
   -- ---- none of them is a node above the block that the path loads
 
@@ -193,23 +161,15 @@ module _ {h : ℕ} {a k c : List ℕ} {n : ℕ} (y : Ready h a k c (pageOf n)) (
       abbrev called : ℕ → Called
       called f = storing allowance (buffers a k c) xs (Done (length xs) 0) (renewPath keys d p b f h)
 
-      module _ (r : ℕ) (top : r ≡ getD tags h 0) (a' k' : List ℕ) (told : ℕ) (ran : Ran a k₁ m r allowance (media a' k') told) where
-        made : Stored allowance xs (media a k) (media a' k') told
-        made =
-            subst (λ (z : ℕ). Stored allowance (batchStores cs z) (media a k) (media a' k') told) (top ∙ root-renewed)
-            (staged-run staging r (media a' k') told ran)
-
-        many : length xs ≡ 2 * m + 3
-        many = length-batch cs (renewedRoot h keys d p b) (batch-length .0) ∙ ap (λ (i : ℕ). 2 * i + 3) (sym number)
-
+      module _ {r : ℕ} (top : r ≡ getD tags h 0) {a' k' : List ℕ} {told : ℕ} (ran : Ran a k₁ m r allowance (media a' k') told) where
         pub write-cut : (f : ℕ) → told < 2 * m + 3 → ended (Cut told) a' k' c ≡ called f
-        write-cut f q = storing-cut allowance (buffers a k c) xs (Done (length xs) 0) (renewPath keys d p b f h) a' k' told made (omega (arith, many))
+        write-cut f q = staged-cut staging (top ∙ root-renewed) ran c (renewPath keys d p b f h) q
 
         abbrev d' : List ℕ
         d' = withPath h a' p (suc h) c
 
         array-is : a' ≡ storeAll (media a k) (takes allowance xs) .array
-        array-is = ap (λ (x : Media). x .array) (made .left)
+        array-is = ap (λ (x : Media). x .array) (stored staging (top ∙ root-renewed) ran .left)
 
         pub whole' : length a' ≡ length a
         whole' =
@@ -235,6 +195,5 @@ module _ {h : ℕ} {a k c : List ℕ} {n : ℕ} (y : Ready h a k c (pageOf n)) (
 
         pub write-done : (f : ℕ) → 2 * m + 3 ≤ told → (c' : List ℕ) → c' ≡ renewedBy d' p b f tags h → ended (Done told 0) a' k' c' ≡ called f
         write-done f q c' e =
-            let all = all-told allowance (buffers a k c) xs (Done (length xs) 0) (renewPath keys d p b f h) a' k' told made (omega (arith, many)) in
-            ap₂ {C = Called} (λ (i : ℕ) (l : List ℕ). ended (Done i 0) a' k' l) all (e ∙ same-renewed f)
-            ∙ storing-done allowance (buffers a k c) xs (Done (length xs) 0) (renewPath keys d p b f h) a' k' told made (omega (arith, many))
+            ap (λ (l : List ℕ). ended (Done told 0) a' k' l) (e ∙ same-renewed f)
+            ∙ staged-done staging (top ∙ root-renewed) ran c (renewPath keys d p b f h) q

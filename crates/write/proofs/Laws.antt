@@ -18,8 +18,6 @@ use Rattle.memory_map.specs.Map.{onPath, cellOf}
 use Rattle.memory_map.specs.Map.Item.{node}
 use Rattle.memory_map.proofs.Laws.{path-bottom}
 use Rattle.pad.specs.Pad.{pad, xorBytes}
-use Rattle.pad.proofs.Nonce.{length-pad}
-use Rattle.pad.proofs.Xor.{length-xor}
 use Rattle.tag.specs.Tag.{nodeTag, dataTag}
 use Rattle.tag.proofs.Tags.{dataTag-lt}
 use Rattle.control.specs.Control.{Cell, controlLength, placeAt}
@@ -28,7 +26,9 @@ use Rattle.batch.proofs.Laws.{staged-none, staged-one}
 use Rattle.cache.specs.Cache.{current}
 use Rattle.calls.specs.Path.{nodeCell}
 use Rattle.calls.specs.Read.{sideBytes}
-use Rattle.write.specs.Parts.{lineCell, blockCells, renewedTag}
+use Rattle.call_laws.specs.Line.{lineCell, blockCells}
+use Rattle.call_laws.proofs.Line.{sealed-length}
+use Rattle.write.specs.Parts.{renewedTag}
 
 -- ---- the tags of the path
 
@@ -82,9 +82,6 @@ module _ (keys : List ℕ) (line : ℕ) (text : List ℕ) (ma mi : ℕ) (size : 
   abbrev sealed : List ℕ
   sealed = xorBytes text (pad keys line ma mi)
 
-  pub sealed-length : length sealed ≡ 64
-  sealed-length = length-xor text (pad keys line ma mi) (rw (length-pad, size) (le-refl 64)) ∙ size
-
   pub side-digits : (t : ℕ) → t ≡ dataTag keys sealed line ma mi → toLe 8 (mi % 4 + 256 * t) ≡ sideBytes keys sealed line ma mi
   unfolding digits
   side-digits t e =
@@ -99,7 +96,7 @@ module _ (keys : List ℕ) (line : ℕ) (text : List ℕ) (ma mi : ℕ) (size : 
   seal-bytes cell b t l e f =
       let w = toLe 8 (mi % 4 + 256 * t) in
       let wide = length-digits 256 8 (mi % 4 + 256 * t) in
-      let full : length b ≡ 64 = ap length e ∙ sealed-length in
+      let full : length b ≡ 64 = ap length e ∙ sealed-length keys line text ma mi size in
       ap (λ (x : List ℕ). put x 64 w) (part-put cell 0 b 64 full) ∙ ap (λ (i : ℕ). put (put cell 0 b) i w) (sym (zero-add 64) ∙ ap (λ (i : ℕ). 0 + i) (sym full))
       ∙ put-append cell 0 b w (omega arith) ∙ put-all cell (b ++ w) (rw length-append (omega arith))
       ∙ ap₂ {C = List ℕ} _++_ e (side-digits t (f ∙ ap (λ (x : List ℕ). dataTag keys x line ma mi) (take-at b (drop 64 cell) 64 full ∙ e)))
@@ -112,12 +109,6 @@ line-put k n allowance c size few within full at e =
     let w = length-digits 256 8 (c .number) in
     ap (λ (i : ℕ). put (put k at (toLe 8 (c .number))) (at + i) (c .bytes)) (sym w)
     ∙ put-append k at (toLe 8 (c .number)) (c .bytes) (omega arith) ∙ ap (λ (i : ℕ). put k i (toLe 8 (c .number) ++ c .bytes)) e ∙ rw (lt-ltb n allowance within)
-
-pub line-cell-length : (keys : List ℕ) (line : ℕ) (text : List ℕ) (ma mi : ℕ) → length text ≡ 64 → length (lineCell keys line text ma mi .bytes) ≡ 72
-unfolding lineCell
-line-cell-length keys line text ma mi e =
-    let b = xorBytes text (pad keys line ma mi) in
-    length-append b (sideBytes keys b line ma mi) ∙ omega (arith, sealed-length keys line text ma mi e, length-digits 256 7 (dataTag keys b line ma mi))
 
 -- ---- the counter block
 

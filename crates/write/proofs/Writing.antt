@@ -19,10 +19,11 @@ use Rattle.calls.specs.Path.{loaded, differs, loadPath, renewPath, renewedRoot}
 use Rattle.calls.specs.Call.{Module, Called, buffers, ended, storing, pathOf, accessRefusal}
 use Rattle.calls.specs.Read.{lineMinor, pageBlock}
 use Rattle.calls.specs.Write.{newMinor, newBlock, stopLoss, dataCell, writeBatch, writeStores, writtenCache, writeLoaded, writePath, writeJudged, write}
+use Rattle.call_laws.specs.Line.{lineCell, blockCells, lineCells}
 use Rattle.call_laws.specs.Walk.{pathCells, withPath}
 use Rattle.call_laws.proofs.Loading.{path-content}
 use Rattle.path.proofs.Ready.{Ready}
-use Rattle.write.specs.Parts.{lineCell, blockCells, lineCells, storedLine}
+use Rattle.write.specs.Parts.{storedLine}
 
 module _ {h : ℕ} {a k c : List ℕ} (keys : List ℕ) (line : ℕ) (text : List ℕ) (allowance : ℕ) (deep : h ≡ depth k) (y : Ready h a k c (pageOf line)) where
   abbrev m : Module

@@ -7,7 +7,7 @@ use lib.ListN.{length}
 use Rattle.memory_map.specs.Map.{pages, pageOf}
 use Rattle.memory_map.proofs.Laws.{page-inside, lines-small}
 use Rattle.call_laws.specs.Walk.{missing, pathCells}
-use Rattle.write.specs.Parts.{blockCells}
+use Rattle.call_laws.specs.Line.{blockCells}
 use Rattle.write.proofs.Batch.{cells-length, gathered}
 use Rattle.write.proofs.gather.Statement.{statement}
 use Rattle.write.proofs.gather.Tie as tie

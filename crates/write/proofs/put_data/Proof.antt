@@ -9,8 +9,9 @@ use Rattle.words.specs.Bytes.{put}
 use Rattle.words.proofs.Puts.{part-put}
 use Rattle.control.specs.Control.{placeAt}
 use Rattle.batch.proofs.Laws.{staged-past}
-use Rattle.write.specs.Parts.{lineCell}
-use Rattle.write.proofs.Laws.{line-cell-length, line-put}
+use Rattle.call_laws.specs.Line.{lineCell}
+use Rattle.call_laws.proofs.Line.{line-cell-length}
+use Rattle.write.proofs.Laws.{line-put}
 use Rattle.write.proofs.put_data.Statement.{statement}
 use Rattle.write.proofs.put_data.Tie as tie
 

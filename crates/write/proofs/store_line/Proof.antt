@@ -15,11 +15,13 @@ use Rattle.memory_map.proofs.Laws.{page-inside}
 use Rattle.journal.specs.Journal.{media}
 use Rattle.journal.proofs.Steps.{Ran}
 use Rattle.call_laws.specs.Walk.{missing, withPath}
+use Rattle.call_laws.specs.Line.{lineCells}
+use Rattle.call_laws.proofs.Line.{Lent}
 use Rattle.call_laws.proofs.Staged.{Staged, staged-inside}
 use Rattle.path.proofs.Ready.{Ready}
-use Rattle.write.specs.Parts.{lineCells, renewedTag, renewedBy}
+use Rattle.write.specs.Parts.{renewedTag, renewedBy}
 use Rattle.write.proofs.Held.{path-owners}
-use Rattle.write.proofs.Batch.{Lent, batch-length, staging, write-cut, write-done}
+use Rattle.write.proofs.Batch.{batch-length, staging, write-cut, write-done}
 use Rattle.write.proofs.store_line.Statement.{statement}
 use Rattle.write.proofs.store_line.Tie as tie
 
@@ -146,7 +148,7 @@ returns c =
     let a = start at .args in
     write-cut (ready at) (a .keys .now) (lent at) (a .major) (a .minor) (tags .path-tags .result) (known tags) (a .allowance)
     (g .gather .last .1 .1 .1 .1 .1 .1 .1 .1 .1 .0) (g .gather .result) (g .gather .ensures .0) (g .gather .ensures .1)
-    _ refl (r .run .last .0) (r .run .last .1 .0) (r .run .result) (ran r) _ (c .if1 .taken)
+    refl (ran r) _ (c .if1 .taken)
 
 -- the stores are made
 abbrev ended : tie.Else1 → tie.After-run
@@ -208,7 +210,7 @@ returns-2 c =
     let f : ℕ = cond (eqb (phaseOf (a .minor)) 0) 0 1 in
     write-done (ready at) (a .keys .now) (lent at) (a .major) (a .minor) t (known tags) (a .allowance)
     (g .gather .last .1 .1 .1 .1 .1 .1 .1 .1 .1 .0) (g .gather .result) (g .gather .ensures .0) (g .gather .ensures .1)
-    _ refl (r .run .last .0) (r .run .last .1 .0) (r .run .result) (ran r) f (test .if1 .left) (new .renew-path .last .1 .1 .1 .1 .1 .0)
+    refl (ran r) f (test .if1 .left) (new .renew-path .last .1 .1 .1 .1 .1 .0)
     (new .renew-path .ensures
     ∙ ap₂ {C = List ℕ} (λ (x : List ℕ) (i : ℕ). renewedBy x (at .page-of .result) b i t (a .h)) (load .load-missing .ensures) (flag .block-flag .ensures)
     ∙ ap (λ (p : ℕ). renewedBy (withPath (a .h) (r .run .last .0) p (suc (a .h)) (a .cache .now)) p b f t (a .h)) (at .page-of .ensures))
