@@ -55,8 +55,7 @@ staged : (c : tie.After-gather)
 staged c =
     let at = known c in
     let a = start at .args in
-    settling (ready at) (a .allowance) (a .missing) (counted at) (c .before .before .before .before .before .if1 .left) (c .gather .last .1 .1 .1 .0) (c .gather .result)
-    (c .gather .ensures .0) (c .gather .ensures .1)
+    settling (ready at) (counted at) (c .before .before .before .before .before .if1 .left) (c .gather .ensures .0) (c .gather .ensures .1)
 
 run-requires : tie.Need-run-requires
 run-requires c κs =
@@ -95,11 +94,7 @@ returns-2 : tie.Need-returns-2
 returns-2 c =
     let r = c .before .before .before .before .before in
     let g = made r in
-    let at = known g in
-    let a = start at .args in
-    let root = g .before .before .before in
-    settle-cut (ready at) (a .allowance) (a .missing) (counted at) (g .before .before .before .before .before .if1 .left) (g .gather .last .1 .1 .1 .0) (g .gather .result)
-    (g .gather .ensures .0) (g .gather .ensures .1) (root .root .result) (root .root .ensures) (r .run .last .0) (r .run .last .1 .0) (r .run .result) (ran r) (c .if2 .taken)
+    settle-cut (ready (known g)) (staged g) (g .before .before .before .root .ensures) (ran r) (c .if2 .taken)
 
 load-requires : tie.Need-load-requires
 load-requires c κs = search needs
@@ -118,11 +113,7 @@ returns-3 c =
     let call = c .before .before in
     let r = call .before .before .before .before .before .before .before .before in
     let g = made r in
-    let at = known g in
-    let a = start at .args in
-    let root = g .before .before .before in
-    settle-done (ready at) (a .allowance) (a .missing) (counted at) (g .before .before .before .before .before .if1 .left) (g .gather .last .1 .1 .1 .0) (g .gather .result)
-    (g .gather .ensures .0) (g .gather .ensures .1) (root .root .result) (root .root .ensures) (r .run .last .0) (r .run .last .1 .0) (r .run .result) (ran r)
+    settle-done (ready (known g)) (staged g) (g .before .before .before .root .ensures) (ran r)
     (call .before .before .before .if2 .left) (call .load .last .1 .1 .1 .0) (call .load .ensures)
 
 pub settle-spec : {M : Type 1} → statement M
