@@ -90,6 +90,19 @@ module _ {h : ℕ} {a k c : List ℕ} {n : ℕ} (y : Ready h a k c (pageOf n)) (
       let all = cells-length h keys c n text ma mi b in
       (omega (arith, all), omega (arith, all, few y, y .sized .flat, block-few h p mi b))
 
+  pub staging : {allowance : ℕ} {k₁ : List ℕ} {m : ℕ} → k₁ ≡ stagedFrom allowance 0 cs k → m ≡ length cs → Staged h allowance a k cs k₁ m
+  staging held number =
+      record {
+        flat = y .sized .flat;
+        array = y .sized .array;
+        control = y .control;
+        sound = batch-sound;
+        some = batch-length .0;
+        few = batch-length .1;
+        cells = held;
+        number = number;
+      }
+
   -- ---- none of them is a node above the block that the path loads
 
   block-other : (l : ℕ) → 1 ≤ l → l ≤ h → (t : Bool) → Each (Other h (node l (onPath p l))) (cond t (nodeCell h 0 p b ∷ []) [])
@@ -139,22 +152,9 @@ module _ {h : ℕ} {a k c : List ℕ} {n : ℕ} (y : Ready h a k c (pageOf n)) (
         (put (content d (slotOf (suc l) (onPath p (suc l)))) (8 * (onPath p l % 8)) (toLe 8 t)))
         (renewed-path f l (omega arith)) (known l (omega arith) ∙ tag-renewed l (omega arith))
 
-    -- ---- staged, and run
+    -- ---- run
 
-    module _ (allowance : ℕ) (k₁ : List ℕ) (m : ℕ) (held : k₁ ≡ stagedFrom allowance 0 cs k) (number : m ≡ length cs) where
-      pub staging : Staged h allowance a k cs k₁ m
-      staging =
-          record {
-            flat = y .sized .flat;
-            array = y .sized .array;
-            control = y .control;
-            sound = batch-sound;
-            some = batch-length .0;
-            few = batch-length .1;
-            cells = held;
-            number = number;
-          }
-
+    module _ {allowance : ℕ} {k₁ : List ℕ} {m : ℕ} (s : Staged h allowance a k cs k₁ m) where
       abbrev xs : List Store
       xs = batchStores cs (renewedRoot h keys d p b)
 
@@ -163,13 +163,13 @@ module _ {h : ℕ} {a k c : List ℕ} {n : ℕ} (y : Ready h a k c (pageOf n)) (
 
       module _ {r : ℕ} (top : r ≡ getD tags h 0) {a' k' : List ℕ} {told : ℕ} (ran : Ran a k₁ m r allowance (media a' k') told) where
         pub write-cut : (f : ℕ) → told < 2 * m + 3 → ended (Cut told) a' k' c ≡ called f
-        write-cut f q = staged-cut staging (top ∙ root-renewed) ran c (renewPath keys d p b f h) q
+        write-cut f q = staged-cut s (top ∙ root-renewed) ran c (renewPath keys d p b f h) q
 
         abbrev d' : List ℕ
         d' = withPath h a' p (suc h) c
 
         array-is : a' ≡ storeAll (media a k) (takes allowance xs) .array
-        array-is = ap (λ (x : Media). x .array) (stored staging (top ∙ root-renewed) ran .left)
+        array-is = ap (λ (x : Media). x .array) (stored s (top ∙ root-renewed) ran .left)
 
         pub whole' : length a' ≡ length a
         whole' =
@@ -196,4 +196,4 @@ module _ {h : ℕ} {a k c : List ℕ} {n : ℕ} (y : Ready h a k c (pageOf n)) (
         pub write-done : (f : ℕ) → 2 * m + 3 ≤ told → (c' : List ℕ) → c' ≡ renewedBy d' p b f tags h → ended (Done told 0) a' k' c' ≡ called f
         write-done f q c' e =
             ap (λ (l : List ℕ). ended (Done told 0) a' k' l) (e ∙ same-renewed f)
-            ∙ staged-done staging (top ∙ root-renewed) ran c (renewPath keys d p b f h) q
+            ∙ staged-done s (top ∙ root-renewed) ran c (renewPath keys d p b f h) q

@@ -95,8 +95,7 @@ staged c =
     let tags = tagged c in
     let at = found tags in
     let a = start at .args in
-    staging (ready at) (a .keys .now) (lent at) (a .major) (a .minor) (tags .path-tags .result) (known tags) (a .allowance)
-    (c .gather .last .1 .1 .1 .1 .1 .1 .1 .1 .1 .0) (c .gather .result) (c .gather .ensures .0) (c .gather .ensures .1)
+    staging (ready at) (a .keys .now) (lent at) (a .major) (a .minor) (c .gather .ensures .0) (c .gather .ensures .1)
 
 mul-run : tie.Need-mul-run
 mul-run c = search needs
@@ -146,8 +145,7 @@ returns c =
     let tags = tagged g in
     let at = found tags in
     let a = start at .args in
-    write-cut (ready at) (a .keys .now) (lent at) (a .major) (a .minor) (tags .path-tags .result) (known tags) (a .allowance)
-    (g .gather .last .1 .1 .1 .1 .1 .1 .1 .1 .1 .0) (g .gather .result) (g .gather .ensures .0) (g .gather .ensures .1)
+    write-cut (ready at) (a .keys .now) (lent at) (a .major) (a .minor) (tags .path-tags .result) (known tags) (staged g)
     refl (ran r) _ (c .if1 .taken)
 
 -- the stores are made
@@ -208,8 +206,7 @@ returns-2 c =
     let t = tags .path-tags .result in
     let b = a .block .now in
     let f : ℕ = cond (eqb (phaseOf (a .minor)) 0) 0 1 in
-    write-done (ready at) (a .keys .now) (lent at) (a .major) (a .minor) t (known tags) (a .allowance)
-    (g .gather .last .1 .1 .1 .1 .1 .1 .1 .1 .1 .0) (g .gather .result) (g .gather .ensures .0) (g .gather .ensures .1)
+    write-done (ready at) (a .keys .now) (lent at) (a .major) (a .minor) t (known tags) (staged g)
     refl (ran r) f (test .if1 .left) (new .renew-path .last .1 .1 .1 .1 .1 .0)
     (new .renew-path .ensures
     ∙ ap₂ {C = List ℕ} (λ (x : List ℕ) (i : ℕ). renewedBy x (at .page-of .result) b i t (a .h)) (load .load-missing .ensures) (flag .block-flag .ensures)
