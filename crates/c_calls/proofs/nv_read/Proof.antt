@@ -30,10 +30,7 @@ read-requires c κs = search needs
 tell-requires : tie.Need-tell-requires
 tell-requires c κs =
     let call = c .before .before .before .before .before .before .before .before .before in
-    let at = call .before .before .before .before .before .before in (
-      call .before .before .before .before .before .if1 .left,
-      code-small (defined at .called) (call .read .result) (buffers (call .read .last .1 .1 .0) (call .read .last .1 .0) (call .read .last .1 .1 .1 .0)) (ap (λ (x : Reading). x .called) (call .read .ensures)) (read-fits (start at .args .keys .now) (start at .args .line) (start at .args .allowance) (start at .args .out .now) (given at) .code),
-    )
+    (call .before .before .before .before .before .if1 .left, code-small (ap (λ (x : Reading). x .called) (call .read .ensures)) (read-fits _ _ _ _ _))
 
 same-length : tie.Need-same-length
 same-length c = search needs
@@ -57,8 +54,8 @@ returns-2 c =
     let at = call .before .before .before .before .before .before in
     let right = call .before .before .before .before .before .if1 .left in
     let all =
-    right-call (start at .args .numbers .now) right (given at) (defined at .called) (call .read .result)
-    (buffers (call .read .last .1 .1 .0) (call .read .last .1 .0) (call .read .last .1 .1 .1 .0)) (ap (λ (x : Reading). x .called) (call .read .ensures)) (told .tell .result) (told .tell .ensures .0) (told .tell .last .1 .0) (told .tell .ensures .1) in (
+    right-call (start at .args .numbers .now) right (given at) (ap (λ (x : Reading). x .called) (call .read .ensures))
+    (told .tell .ensures .0) (told .tell .ensures .1) in (
       all .0,
       (
         all .1 .0,
