@@ -96,4 +96,5 @@ module _ (control cache list : List ℕ) where
       → ListLeft numbers control cache list after
   unfolding ListLeft
   list-right numbers right a after s =
-      rw (ListLeft, eq-eqb (length numbers) 24 right) (subst (λ (x : Answer). ListCall control cache list x after) (list-answer a after s) s)
+      rw (ListLeft, eq-eqb (length numbers) 24 right)
+      (subst (λ (x : Answer). ListCall control cache list x after) (list-answer a after s) s)

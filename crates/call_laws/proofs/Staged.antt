@@ -56,10 +56,12 @@ module _ {h allowance : ℕ} {a k : List ℕ} {cs : List Cell} {k₁ : List ℕ}
     many : length xs ≡ 2 * n + 3
     many = length-batch cs top (s .some) ∙ ap (λ (i : ℕ). 2 * i + 3) (sym (s .number))
 
-    pub staged-cut : (c d : List ℕ) → told < 2 * n + 3 → ended (Cut told) a' k' c ≡ storing allowance (buffers a k c) xs (Done (length xs) 0) d
+    pub staged-cut : (c d : List ℕ) → told < 2 * n + 3 → ended (Cut told) a' k' c
+        ≡ storing allowance (buffers a k c) xs (Done (length xs) 0) d
     staged-cut c d q = storing-cut allowance (buffers a k c) xs (Done (length xs) 0) d a' k' told stored (omega (arith, many))
 
-    pub staged-done : (c d : List ℕ) → 2 * n + 3 ≤ told → ended (Done told 0) a' k' d ≡ storing allowance (buffers a k c) xs (Done (length xs) 0) d
+    pub staged-done : (c d : List ℕ) → 2 * n + 3 ≤ told → ended (Done told 0) a' k' d
+        ≡ storing allowance (buffers a k c) xs (Done (length xs) 0) d
     staged-done c d q =
         let m = buffers a k c in
         let whole : length xs ≤ told = omega (arith, many) in

@@ -61,12 +61,17 @@ module _ {h : ℕ} {a k c : List ℕ} {p : ℕ} (y : Ready h a k c p) where
   d = withPath h a p (suc h) c
 
   -- nothing is missing
-  pub settle-none : (allowance j : ℕ) → j ≡ missing c p (suc h) → j ≡ 0 → ended (Done 0 0) a k c ≡ storing allowance m xs (Done (length xs) 0) d
+  pub settle-none : (allowance j : ℕ) → j ≡ missing c p (suc h) → j ≡ 0 → ended (Done 0 0) a k c
+      ≡ storing allowance m xs (Done (length xs) 0) d
   settle-none allowance j e f =
       let held = none-missing h a c p (suc h) (sym e ∙ f) in
       let empty : xs ≡ [] = ap (λ (x : List Cell). batchStores x (root k)) (held .0) ∙ batch-empty (root k) in
       storing-done allowance m [] (Done 0 0) c a k 0
-      (record { left = sym (ap (storeAll (media a k)) (take-nil allowance) ∙ store-none (media a k)); number = sym (ap length (take-nil {A = Store} allowance)) }) (le-refl 0)
+      (record {
+        left = sym (ap (storeAll (media a k)) (take-nil allowance) ∙ store-none (media a k));
+        number = sym
+            (ap length (take-nil {A = Store} allowance));
+      }) (le-refl 0)
       ∙ ap₂ {C = Called} (λ (x : List Store) (y : List ℕ). storing allowance m x (Done (length x) 0) y) (sym empty) (sym (held .1))
 
   -- some of it is: staged, and run

@@ -71,7 +71,8 @@ module _ (h : ℕ) (keys c : List ℕ) (n : ℕ) (text : List ℕ) (ma mi : ℕ)
         omega (arith, length-append (x ++ y) (z ∷ [])),
       )
 
-module _ {h : ℕ} {a k c : List ℕ} {n : ℕ} (y : Ready h a k c (pageOf n)) (keys : List ℕ) {text b : List ℕ} (v : Lent h n text b) (ma mi : ℕ) where
+module _ {h : ℕ} {a k c : List ℕ} {n : ℕ} (y : Ready h a k c (pageOf n)) (keys : List ℕ) {text b : List ℕ} (v : Lent h n text b)
+    (ma mi : ℕ) where
   abbrev p : ℕ
   p = pageOf n
 
@@ -174,14 +175,16 @@ module _ {h : ℕ} {a k c : List ℕ} {n : ℕ} (y : Ready h a k c (pageOf n)) (
         pub whole' : length a' ≡ length a
         whole' =
             ap length array-is
-            ∙ stored-length h (y .sized .flat) a k (y .sized .array) (y .control) (y .array-bytes) (y .control-bytes) cs batch-sound (batch-length .1) allowance
+            ∙ stored-length h (y .sized .flat) a k (y .sized .array) (y .control) (y .array-bytes) (y .control-bytes) cs batch-sound
+            (batch-length .1) allowance
             (renewedRoot h keys d p b)
 
         kept : (l : ℕ) → 1 ≤ l → l ≤ h → holds c l (onPath p l) ≡ false
             → cellContent a' (cellOf h (node l (onPath p l))) ≡ cellContent a (cellOf h (node l (onPath p l)))
         kept l q lh e =
             ap (λ (x : List ℕ). cellContent x (cellOf h (node l (onPath p l)))) array-is
-            ∙ content-kept h (y .sized .flat) a k (y .sized .array) (y .control) (y .array-bytes) (y .control-bytes) cs batch-sound (batch-length .1) allowance
+            ∙ content-kept h (y .sized .flat) a k (y .sized .array) (y .control) (y .array-bytes) (y .control-bytes) cs batch-sound
+            (batch-length .1) allowance
             (renewedRoot h keys d p b) (node l (onPath p l)) (batch-other l q lh e)
 
         -- loaded from the array after the stores, and renewed
@@ -190,10 +193,12 @@ module _ {h : ℕ} {a k c : List ℕ} {n : ℕ} (y : Ready h a k c (pageOf n)) (
             renewed-over h (y .sized .flat) p (y .page) b (v .wide) f tags d' d
             (path-length h (y .sized .flat) keys a' (whole' ∙ y .sized .array) 0 p (y .page) c (y .sized .cache))
             (path-length h (y .sized .flat) keys a (y .sized .array) 0 p (y .page) c (y .sized .cache))
-            (path-over h (y .sized .flat) p (y .page) b (v .wide) f a a' c (y .sized .array) (whole' ∙ y .sized .array) kept (y .sized .cache)) h (le-refl h)
+            (path-over h (y .sized .flat) p (y .page) b (v .wide) f a a' c (y .sized .array) (whole' ∙ y .sized .array) kept
+            (y .sized .cache)) h (le-refl h)
             ∙ renewed-path f h (le-refl h)
 
-        pub write-done : (f : ℕ) → 2 * m + 3 ≤ told → (c' : List ℕ) → c' ≡ renewedBy d' p b f tags h → ended (Done told 0) a' k' c' ≡ called f
+        pub write-done : (f : ℕ) → 2 * m + 3 ≤ told → (c' : List ℕ) → c' ≡ renewedBy d' p b f tags h → ended (Done told 0) a' k' c'
+            ≡ called f
         write-done f q c' e =
             ap (λ (l : List ℕ). ended (Done told 0) a' k' l) (e ∙ same-renewed f)
             ∙ staged-done s (top ∙ root-renewed) ran c (renewPath keys d p b f h) q

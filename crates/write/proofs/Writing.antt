@@ -102,6 +102,7 @@ module _ (keys : List ℕ) (line : ℕ) (text : List ℕ) (allowance : ℕ) (a k
   write-refused (suc n) e p = ap (λ (i : ℕ). writeJudged i keys line text allowance (buffers a k c)) e
 
   pub write-accepted : 0 ≡ accessRefusal keys line text (buffers a k c)
-      → writePath keys line text allowance (buffers a k c) (pathOf keys line (buffers a k c)) ≡ write keys line text allowance (buffers a k c)
+      → writePath keys line text allowance (buffers a k c) (pathOf keys line (buffers a k c))
+      ≡ write keys line text allowance (buffers a k c)
   unfolding writeJudged
   write-accepted e = ap (λ (i : ℕ). writeJudged i keys line text allowance (buffers a k c)) e

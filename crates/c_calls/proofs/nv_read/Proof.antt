@@ -21,16 +21,28 @@ defined c = let a = start c .args in read (a .keys .now) (a .line) (a .allowance
 returns : tie.Need-returns
 returns c =
     let at = c .before in
-    let all = wrong-call (start at .args .numbers .now) (c .if1 .taken) (given at) (defined at .called) in
-    (all .0, (all .1 .0, (all .1 .1, wrong-left (start at .args .numbers .now) (c .if1 .taken) (start at .args .out .now) (defined at .output))))
+    let all = wrong-call (start at .args .numbers .now) (c .if1 .taken) (given at) (defined at .called) in (
+      all .0,
+      (
+        all .1 .0,
+        (
+          all .1 .1,
+          wrong-left (start at .args .numbers .now) (c .if1 .taken) (start at .args .out .now)
+              (defined at .output),
+        ),
+      ),
+    )
 
 read-requires : tie.Need-read-requires
 read-requires c κs = search needs
 
 tell-requires : tie.Need-tell-requires
 tell-requires c κs =
-    let call = c .before .before .before .before .before .before .before .before .before in
-    (call .before .before .before .before .before .if1 .left, code-small (ap (λ (x : Reading). x .called) (call .read .ensures)) (read-fits _ _ _ _ _))
+    let call = c .before .before .before .before .before .before .before .before .before in (
+      call .before .before .before .before .before .if1 .left,
+      code-small (ap (λ (x : Reading). x .called) (call .read .ensures))
+          (read-fits _ _ _ _ _),
+    )
 
 same-length : tie.Need-same-length
 same-length c = search needs
@@ -61,7 +73,8 @@ returns-2 c =
         all .1 .0,
         (
           all .1 .1,
-          right-left (start at .args .numbers .now) right (start at .args .out .now) (defined at .output) (call .read .last .1 .1 .1 .1 .1 .0)
+          right-left (start at .args .numbers .now) right (start at .args .out .now) (defined at .output)
+              (call .read .last .1 .1 .1 .1 .1 .0)
               (ap (λ (x : Reading). x .output) (call .read .ensures)),
         ),
       ),

@@ -34,7 +34,8 @@ root-requires c κs = search needs
 abbrev start : tie.After-slice-known4 → tie.Start
 start c = c .before .before .before .before .before
 
-ready : (c : tie.After-slice-known4) → let a = start c .args in Ready (a .h) (a .array .now) (a .control .now) (a .cache .now) (pageOf (a .line))
+ready : (c : tie.After-slice-known4) → let a = start c .args in Ready (a .h) (a .array .now) (a .control .now) (a .cache .now)
+    (pageOf (a .line))
 ready c =
     let s = start c in
     ready-of (s .args .keys .now) (s .args .out .now) (s .pre) (record { at = λ i. c .before .before .slice-known2 .given i .fits })
@@ -76,9 +77,11 @@ returns c =
     let at = known walk in
     let a = start at .args in
     let told = c .before .enum-told .given .1 in
-    ap (λ (r : Answer). endedRead r (a .array .now) (a .control .now) (a .cache .now) (a .out .now)) (c .refused .ensures ∙ ap refusalOf told)
+    ap (λ (r : Answer). endedRead r (a .array .now) (a .control .now) (a .cache .now) (a .out .now))
+    (c .refused .ensures ∙ ap refusalOf told)
     ∙ read-differs (a .keys .now) (a .line) (a .allowance) (a .out .now) (buffers (a .array .now) (a .control .now) (a .cache .now))
-    (walk-differs (a .keys .now) (a .line) (ready at) (start at .pre .1 .1 .0) (walk .before .before .before .before .before .page-of .ensures)
+    (walk-differs (a .keys .now) (a .line) (ready at) (start at .pre .1 .1 .0)
+    (walk .before .before .before .before .before .page-of .ensures)
     (walk .before .root .ensures) (walk .walk .ensures) told)
 
 -- the path is loaded
@@ -94,14 +97,16 @@ loads c =
     let walk = walked c in
     let at = known walk in
     let a = start at .args in
-    walk-loaded (a .keys .now) (a .line) (ready at) (start at .pre .1 .1 .0) (walk .before .before .before .before .before .page-of .ensures)
+    walk-loaded (a .keys .now) (a .line) (ready at) (start at .pre .1 .1 .0)
+    (walk .before .before .before .before .before .page-of .ensures)
     (walk .before .root .ensures) (walk .walk .ensures) (c .path .given .1)
 
 line-counter-requires : tie.Need-line-counter-requires
 line-counter-requires c κs = search needs
 
 room : (c : tie.After-slice-known4) → 72 * start c .args .line + 72 ≤ length (start c .args .array .now)
-room c = let s = start c in line-room (s .args .h) (s .args .array .now) (s .args .line) (s .pre .1 .1 .1 .0 .array) (s .pre .1 .1 .1 .1 .1 .0)
+room c =
+    let s = start c in line-room (s .args .h) (s .args .array .now) (s .args .line) (s .pre .1 .1 .1 .0 .array) (s .pre .1 .1 .1 .1 .1 .0)
 
 -- and the counter found
 abbrev seen : tie.After-line-counter → tie.After-path
@@ -166,14 +171,18 @@ settle-requires c κs =
 settled-on : (c : tie.After-settle)
     → let path = seen (c .before .before .before .before .before .before) in let a = start (known (walked path)) .args in
     ended (c .settle .result) (c .settle .last .1 .1 .0) (c .settle .last .1 .0) (c .settle .last .1 .1 .1 .0)
-    ≡ storing (a .allowance) (buffers (a .array .now) (a .control .now) (a .cache .now)) (pathStores (a .h) (a .cache .now) (pageOf (a .line)) (root (a .control .now)))
-    (Done (length (pathStores (a .h) (a .cache .now) (pageOf (a .line)) (root (a .control .now)))) 0) (withPath (a .h) (a .array .now) (pageOf (a .line)) (suc (a .h)) (a .cache .now))
+    ≡ storing (a .allowance) (buffers (a .array .now) (a .control .now) (a .cache .now))
+    (pathStores (a .h) (a .cache .now) (pageOf (a .line)) (root (a .control .now)))
+    (Done (length (pathStores (a .h) (a .cache .now) (pageOf (a .line)) (root (a .control .now)))) 0)
+    (withPath (a .h) (a .array .now) (pageOf (a .line)) (suc (a .h)) (a .cache .now))
 settled-on c =
     let walk = walked (seen (c .before .before .before .before .before .before)) in
     let a = start (known walk) .args in
     c .settle .ensures
-    ∙ ap (λ (p : ℕ). storing (a .allowance) (buffers (a .array .now) (a .control .now) (a .cache .now)) (pathStores (a .h) (a .cache .now) p (root (a .control .now)))
-    (Done (length (pathStores (a .h) (a .cache .now) p (root (a .control .now)))) 0) (withPath (a .h) (a .array .now) p (suc (a .h)) (a .cache .now)))
+    ∙ ap (λ (p : ℕ). storing (a .allowance) (buffers (a .array .now) (a .control .now) (a .cache .now))
+    (pathStores (a .h) (a .cache .now) p (root (a .control .now)))
+    (Done (length (pathStores (a .h) (a .cache .now) p (root (a .control .now)))) 0)
+    (withPath (a .h) (a .array .now) p (suc (a .h)) (a .cache .now)))
     (walk .before .before .before .before .before .page-of .ensures)
 
 enum-known-ended : tie.Need-enum-known-ended

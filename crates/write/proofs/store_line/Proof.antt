@@ -66,7 +66,8 @@ abbrev found : tie.After-path-tags → tie.After-page-of
 found c = c .before .before .before
 
 known : (c : tie.After-path-tags) → let a = start (found c) .args in
-    (l : ℕ) → l ≤ a .h → getD (c .path-tags .result) l 0 ≡ renewedTag (a .h) (a .keys .now) (a .array .now) (a .cache .now) (pageOf (a .line)) (a .block .now) l
+    (l : ℕ) → l ≤ a .h → getD (c .path-tags .result) l 0
+    ≡ renewedTag (a .h) (a .keys .now) (a .array .now) (a .cache .now) (pageOf (a .line)) (a .block .now) l
 known c l q =
     let a = start (found c) .args in
     c .path-tags .ensures l q
@@ -89,7 +90,8 @@ abbrev tagged : tie.After-gather → tie.After-path-tags
 tagged c = c .before .before .before
 
 staged : (c : tie.After-gather) → let a = start (found (tagged c)) .args in
-    Staged (a .h) (a .allowance) (a .array .now) (a .control .now) (lineCells (a .h) (a .keys .now) (a .cache .now) (a .line) (a .text .now) (a .major) (a .minor) (a .block .now))
+    Staged (a .h) (a .allowance) (a .array .now) (a .control .now)
+    (lineCells (a .h) (a .keys .now) (a .cache .now) (a .line) (a .text .now) (a .major) (a .minor) (a .block .now))
     (c .gather .last .1 .1 .1 .1 .1 .1 .1 .1 .1 .0) (c .gather .result)
 staged c =
     let tags = tagged c in
@@ -119,7 +121,8 @@ small : (c : tie.After-gather) → c .gather .result ≤ 8
 small c = let s = staged c in omega (arith, s .few, s .number)
 
 ran : (c : tie.After-run) → let g = made c in let tags = tagged g in let a = start (found tags) .args in
-    Ran (a .array .now) (g .gather .last .1 .1 .1 .1 .1 .1 .1 .1 .1 .0) (g .gather .result) (getD (tags .path-tags .result) (a .h) 0) (a .allowance)
+    Ran (a .array .now) (g .gather .last .1 .1 .1 .1 .1 .1 .1 .1 .1 .0) (g .gather .result) (getD (tags .path-tags .result) (a .h) 0)
+    (a .allowance)
     (media (c .run .last .0) (c .run .last .1 .0)) (c .run .result)
 ran c = record { left = c .run .ensures .0; number = c .run .ensures .1 }
 
@@ -209,7 +212,8 @@ returns-2 c =
     write-done (ready at) (a .keys .now) (lent at) (a .major) (a .minor) t (known tags) (staged g)
     refl (ran r) f (test .if1 .left) (new .renew-path .last .1 .1 .1 .1 .1 .0)
     (new .renew-path .ensures
-    ∙ ap₂ {C = List ℕ} (λ (x : List ℕ) (i : ℕ). renewedBy x (at .page-of .result) b i t (a .h)) (load .load-missing .ensures) (flag .block-flag .ensures)
+    ∙ ap₂ {C = List ℕ} (λ (x : List ℕ) (i : ℕ). renewedBy x (at .page-of .result) b i t (a .h)) (load .load-missing .ensures)
+    (flag .block-flag .ensures)
     ∙ ap (λ (p : ℕ). renewedBy (withPath (a .h) (r .run .last .0) p (suc (a .h)) (a .cache .now)) p b f t (a .h)) (at .page-of .ensures))
 
 pub store-line-spec : {M : Type 1} → statement M

@@ -37,7 +37,8 @@ given c = let a = start c .args in buffers (a .array .now) (a .control .now) (a 
 returns : tie.Need-returns
 returns c =
     let a = start (c .before) .args in
-    write-refused (a .keys .now) (a .line) (a .text .now) (a .allowance) (a .array .now) (a .control .now) (a .cache .now) (c .before .entry .result)
+    write-refused (a .keys .now) (a .line) (a .text .now) (a .allowance) (a .array .now) (a .control .now) (a .cache .now)
+    (c .before .entry .result)
     (entry-refused (a .keys .now) (a .line) (a .text .now) (given (c .before)) (c .before .entry .ensures) (c .if1 .taken)) (c .if1 .taken)
 
 -- past it

@@ -69,7 +69,8 @@ returns c =
     let told = c .before .enum-told .given .1 in
     ap (λ (r : Answer). ended r (a .array .now) (a .control .now) (a .cache .now)) (c .refused .ensures ∙ ap refusalOf told)
     ∙ write-differs (a .keys .now) (a .line) (a .text .now) (a .allowance) (buffers (a .array .now) (a .control .now) (a .cache .now))
-    (walk-differs (a .keys .now) (a .line) (ready at) (start at .pre .1 .1 .0) (walk .before .before .before .before .before .page-of .ensures)
+    (walk-differs (a .keys .now) (a .line) (ready at) (start at .pre .1 .1 .0)
+    (walk .before .before .before .before .before .page-of .ensures)
     (walk .before .root .ensures) (walk .walk .ensures) told)
 
 -- the path is loaded
@@ -85,7 +86,8 @@ loads c =
     let walk = walked c in
     let at = known walk in
     let a = start at .args in
-    walk-loaded (a .keys .now) (a .line) (ready at) (start at .pre .1 .1 .0) (walk .before .before .before .before .before .page-of .ensures)
+    walk-loaded (a .keys .now) (a .line) (ready at) (start at .pre .1 .1 .0)
+    (walk .before .before .before .before .before .page-of .ensures)
     (walk .before .root .ensures) (walk .walk .ensures) (c .path .given .1)
 
 line-counter-requires : tie.Need-line-counter-requires
@@ -147,7 +149,8 @@ returns-3 c =
     let call = c .before .before .before .before .before .before in
     let counted = count (call .before) in
     let a = start (known (walked (seen counted))) .args in
-    call .raise .ensures ∙ write-stored (found counted) (a .text .now) (a .allowance) (call .before .before .before .before .before .if1 .left)
+    call .raise .ensures ∙ write-stored (found counted) (a .text .now) (a .allowance)
+    (call .before .before .before .before .before .if1 .left)
 
 pub write-line-spec : {M : Type 1} → statement M
 write-line-spec =
