@@ -37,12 +37,14 @@ module _ (keys : List ℕ) (m : Module) where
           pub wrong-cache : (length (m .cache) ≡ cacheLength (depth (m .control)) → ⊥) → 5 ≡ recoveryRefusal keys m
           unfolding recoveryRefusal
           wrong-cache p =
-              on _ _ _ (unlike-false k) (on _ _ _ (unlike-false r) (on _ _ _ (ap not v) (on _ _ _ (unlike-false a) (here _ _ _ (unlike-true p)))))
+              on _ _ _ (unlike-false k) (on _ _ _ (unlike-false r)
+              (on _ _ _ (ap not v) (on _ _ _ (unlike-false a) (here _ _ _ (unlike-true p)))))
 
           pub right-cache : length (m .cache) ≡ cacheLength (depth (m .control)) → 0 ≡ recoveryRefusal keys m
           unfolding recoveryRefusal
           right-cache p =
-              on _ _ _ (unlike-false k) (on _ _ _ (unlike-false r) (on _ _ _ (ap not v) (on _ _ _ (unlike-false a) (on _ _ _ (unlike-false p) end))))
+              on _ _ _ (unlike-false k) (on _ _ _ (unlike-false r)
+              (on _ _ _ (ap not v) (on _ _ _ (unlike-false a) (on _ _ _ (unlike-false p) end))))
 
 module _ (keys : List ℕ) (line : ℕ) (b : List ℕ) (m : Module) where
   pub refused-first : (n : ℕ) → n ≡ recoveryRefusal keys m → (n ≡ 0 → ⊥) → n ≡ entryRefusal keys line b m
@@ -63,9 +65,11 @@ module _ (keys : List ℕ) (line : ℕ) (b : List ℕ) (m : Module) where
         pub is-pending : (count (m .control) ≡ 0 → ⊥) → 22 ≡ entryRefusal keys line b m
         unfolding entryRefusal
         is-pending p =
-            opened-on _ o (on _ _ _ (unlike-false s) (on _ _ _ (lt-leb _ line i) (here _ _ _ (lt-ltb 0 (count (m .control)) (omega arith)))))
+            opened-on _ o (on _ _ _ (unlike-false s)
+            (on _ _ _ (lt-leb _ line i) (here _ _ _ (lt-ltb 0 (count (m .control)) (omega arith)))))
 
         pub is-idle : count (m .control) ≡ 0 → 0 ≡ entryRefusal keys line b m
         unfolding entryRefusal
         is-idle p =
-            opened-on _ o (on _ _ _ (unlike-false s) (on _ _ _ (lt-leb _ line i) (on _ _ _ (le-ltb 0 (count (m .control)) (omega arith)) end)))
+            opened-on _ o (on _ _ _ (unlike-false s)
+            (on _ _ _ (lt-leb _ line i) (on _ _ _ (le-ltb 0 (count (m .control)) (omega arith)) end)))

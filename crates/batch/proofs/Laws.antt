@@ -27,7 +27,8 @@ module _ (k : List ℕ) (n allowance : ℕ) where
     cell-put b side l =
         let w = length-digits 256 8 number in
         let v = length-digits 256 8 side in
-        ap (λ (x : List ℕ). put (put (put k (placeAt n) (toLe 8 number)) (placeAt n + 8) x) (placeAt n + 72) (toLe 8 side)) (take-all 64 b (omega arith))
+        ap (λ (x : List ℕ). put (put (put k (placeAt n) (toLe 8 number)) (placeAt n + 8) x) (placeAt n + 72) (toLe 8 side))
+        (take-all 64 b (omega arith))
         ∙ put-three k (placeAt n) (toLe 8 number) b (toLe 8 side) (placeAt n + 8) (placeAt n + 72) (omega arith) (omega arith) (omega arith)
         ∙ rw (lt-ltb n allowance within)
 
@@ -40,7 +41,8 @@ module _ (k : List ℕ) (n allowance : ℕ) where
         let w = length-digits 256 8 number in
         let v = length-digits 256 8 o in
         let z = length-replicate {A = ℕ} 64 0 in
-        put-three k (placeAt n) (toLe 8 number) (toLe 8 o) (replicate 64 0) (placeAt n + 8) (placeAt n + 16) (omega arith) (omega arith) (omega arith)
+        put-three k (placeAt n) (toLe 8 number) (toLe 8 o) (replicate 64 0) (placeAt n + 8) (placeAt n + 16) (omega arith) (omega arith)
+        (omega arith)
         ∙ rw (lt-ltb n allowance within)
 
 -- one cell, none, and some after others

@@ -20,7 +20,8 @@ use Rattle.calls.specs.Path.{Loaded, loaded, differs}
 use Rattle.calls.specs.Call.{Module, Called, judged, accessRefusal, refuse, storing, pathOf}
 use Rattle.calls.specs.Read.{Reading, lineMinor, sideOk, answered, readLoaded, readPath, readJudged, read}
 use Rattle.calls.specs.Write.{writeStores, writtenCache, writeLoaded, writePath, writeJudged, write}
-use Rattle.calls.specs.Recovery.{Rebuilt, rebuilt, damaged, recoveryRefusal, recoverRoot, recoverRebuilt, recoverShadow, recoverMedia, recoverJudged, recover}
+use Rattle.calls.specs.Recovery.{Rebuilt, rebuilt, damaged, recoveryRefusal, recoverRoot, recoverRebuilt, recoverShadow, recoverMedia}
+use Rattle.calls.specs.Recovery.{recoverJudged, recover}
 use Rattle.calls.specs.Format.{formatRefusal, formatted, format}
 use Rattle.calls.specs.DirtyPages.{listRefusal}
 use Rattle.c_calls.specs.Listed.{listAnswer}
@@ -50,7 +51,8 @@ either : (b : Bool) {x y : Called} → Fits x → Fits y → Fits (cond b x y)
 either true p q = p
 either false p q = q
 
-storing-fits : (allowance : ℕ) (m : Module) (xs : List Store) (answer : Answer) (c : List ℕ) → ((n : Module) → Fits (record { answer = answer; after = n }))
+storing-fits : (allowance : ℕ) (m : Module) (xs : List Store) (answer : Answer) (c : List ℕ)
+    → ((n : Module) → Fits (record { answer = answer; after = n }))
     → Fits (storing allowance m xs answer c)
 unfolding storing
 storing-fits allowance m xs answer c p = either (isCut allowance xs) (cut-fits _ _) (p _)
@@ -89,7 +91,8 @@ list-small control cache out = judged-small _ (lit≤ tt, (lit≤ tt, (lit≤ tt
 
 -- ---- the calls
 
-read-tests : (b t : Bool) (x y z : Reading) → Fits (x .called) → Fits (y .called) → Fits (z .called) → Fits ((cond b x (cond t y z)) .called)
+read-tests : (b t : Bool) (x y z : Reading) → Fits (x .called) → Fits (y .called) → Fits (z .called)
+    → Fits ((cond b x (cond t y z)) .called)
 read-tests true t x y z p q r = p
 read-tests false true x y z p q r = q
 read-tests false false x y z p q r = r
@@ -132,7 +135,8 @@ module _ (keys : List ℕ) where
   unfolding recoverRoot
   recover-root k m sum c =
       let h = depth (m .control) in
-      either (eqb (nodeTag keys (current h (m .array) c h 0) h 0) (root (m .control))) (done-fits k sum _) (refused-fits 29 k 0 0 m (lit≤ tt))
+      either (eqb (nodeTag keys (current h (m .array) c h 0) h 0) (root (m .control))) (done-fits k sum _)
+      (refused-fits 29 k 0 0 m (lit≤ tt))
 
   recover-rebuilt : (k : ℕ) (m : Module) (os : List ℕ) (r : Rebuilt) → Fits (recoverRebuilt keys k m os r)
   unfolding recoverRebuilt
@@ -170,4 +174,5 @@ list-judged m (suc n) p = refused-fits (suc n) 0 0 0 m p
 
 pub list-fits : (control cache out : List ℕ) → codeOf (listAnswer (listRefusal control cache out)) ≤ 129
 list-fits control cache out =
-    list-judged (record { array = []; control = control; cache = cache }) (listRefusal control cache out) (list-small control cache out) .code
+    list-judged (record { array = []; control = control; cache = cache }) (listRefusal control cache out)
+    (list-small control cache out) .code

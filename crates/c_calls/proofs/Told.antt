@@ -17,6 +17,7 @@ use Rattle.calls.specs.Call.{Module, Called}
 use Rattle.calls.specs.DirtyPages.{listRefusal, Lists, ListCall}
 use Rattle.calls.specs.ForC.{codeForC, bufferForC, leftForC}
 use Rattle.c_calls.specs.Listed.{listAnswer, ListLeft}
+use Rattle.c_calls.proofs.Codes.{Fits}
 
 -- three numbers, one after the other
 pub numbers-put : (s : List ℕ) (x y z : ℕ) → length s ≡ 24
@@ -62,16 +63,16 @@ module _ (numbers : List ℕ) (right : length numbers ≡ 24) where
   unfolding leftForC
   right-left before after x e = rw (eq-eqb (length numbers) 24 right) e
 
-  pub right-call : (m : Module) (x : Called) (b : Answer) (l : Module) → record { answer = b; after = l } ≡ x
-      → (r : ℕ) → r ≡ codeOf b → (n : List ℕ) → n ≡ bytesOf 8 (valuesOf b)
+  pub right-call : (m : Module) {x : Called} {b : Answer} {l : Module} → record { answer = b; after = l } ≡ x
+      → {r : ℕ} → r ≡ codeOf b → {n : List ℕ} → n ≡ bytesOf 8 (valuesOf b)
       → (r ≡ codeForC numbers (x .answer)) × ((n ≡ bufferForC numbers (x .answer)) × (l ≡ leftForC numbers m (x .after)))
-  right-call m x b l e r f n g =
+  right-call m {x} {b} {l} e {r} f {n} g =
       let same = ap (λ (z : Called). z .answer) e in
       (right-code r f same, (right-buffer n g same, right-left m (x .after) l (ap (λ (z : Called). z .after) e)))
 
 -- the code of a call is small
-pub code-small : (x : Called) (b : Answer) (l : Module) → record { answer = b; after = l } ≡ x → codeOf (x .answer) ≤ 129 → codeOf b < 200
-code-small x b l e p = omega (arith, ap (λ (z : Called). codeOf (z .answer)) e)
+pub code-small : {x : Called} {b : Answer} {l : Module} → record { answer = b; after = l } ≡ x → Fits x → codeOf b < 200
+code-small e p = omega (arith, ap (λ (z : Called). codeOf (z .answer)) e, p .code)
 
 -- ---- the list of dirty pages
 
@@ -95,4 +96,5 @@ module _ (control cache list : List ℕ) where
       → ListLeft numbers control cache list after
   unfolding ListLeft
   list-right numbers right a after s =
-      rw (ListLeft, eq-eqb (length numbers) 24 right) (subst (λ (x : Answer). ListCall control cache list x after) (list-answer a after s) s)
+      rw (ListLeft, eq-eqb (length numbers) 24 right)
+      (subst (λ (x : Answer). ListCall control cache list x after) (list-answer a after s) s)

@@ -127,7 +127,8 @@ pub extern "C" fn nv_write(
 ) -> u32
     ensures { λ r. ⌜ r ≡ codeForC (now (numbers .entry)) ((writeOf (now (keys .entry)) line (now (text .entry)) allowance
         (buffers (now (array .entry)) (now (control .entry)) (now (cache .entry)))) .answer) ⌝ }
-    ensures { λ _. ⌜ now (numbers .exit) ≡ bufferForC (now (numbers .entry)) ((writeOf (now (keys .entry)) line (now (text .entry)) allowance
+    ensures { λ _. ⌜ now (numbers .exit) ≡ bufferForC (now (numbers .entry))
+        ((writeOf (now (keys .entry)) line (now (text .entry)) allowance
         (buffers (now (array .entry)) (now (control .entry)) (now (cache .entry)))) .answer) ⌝ }
     ensures { λ _. ⌜ buffers (now (array .exit)) (now (control .exit)) (now (cache .exit))
         ≡ leftForC (now (numbers .entry)) (buffers (now (array .entry)) (now (control .entry)) (now (cache .entry)))

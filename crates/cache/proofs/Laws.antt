@@ -23,7 +23,8 @@ use Rattle.memory_map.proofs.Laws.{cell-within}
 use Rattle.slot_map.specs.Slots.{cacheLength, slotOf, levelOf, belongs}
 use Rattle.memory_map.specs.Map.Item.{node}
 use Rattle.slot_map.proofs.Laws.{slot-within, level-slot, belongs-node}
-use Rattle.cache.specs.Cache.{owner, dirty, content, withSlot, emptyCache, cellContent, from, cacheOwners, topSlot, stray, anyOwner, missingTop, orElse, badSlot, flagsFormed, isNothing, formed, holds, current}
+use Rattle.cache.specs.Cache.{owner, dirty, content, withSlot, emptyCache, cellContent, from, cacheOwners, topSlot, stray, anyOwner}
+use Rattle.cache.specs.Cache.{missingTop, orElse, badSlot, flagsFormed, isNothing, formed, holds, current}
 use Rattle.cache.proofs.Steps.{place-empty, place-filled, flag-empty, flag-filled}
 use Rattle.cache.specs.declared.Found.{Found}
 use Rattle.cache.specs.declared.Found.the-variants.{Nothing, At}
@@ -45,7 +46,8 @@ content-slot : (c : List ℕ) (s : ℕ) → content c s ≡ part (slot c s) 9 64
 unfolding content
 content-slot c s = sym (part-part c (73 * s) 73 9 64 (omega arith))
 
-module _ (h : ℕ) (c : List ℕ) (sized : length c ≡ cacheLength h) (s : ℕ) (within : s < slots h) (o d : ℕ) (b : List ℕ) (full : length b ≡ 64) where
+module _ (h : ℕ) (c : List ℕ) (sized : length c ≡ cacheLength h) (s : ℕ) (within : s < slots h) (o d : ℕ) (b : List ℕ)
+    (full : length b ≡ 64) where
   room : 73 * s + 73 ≤ length c
   unfolding cacheLength
   room = omega arith
@@ -138,7 +140,8 @@ all-at p s (suc n) e t l u = go (lt-eq-gt s t) (and-eq-true-iff (p s) (all p (su
 at-all : (p : ℕ → Bool) (s n : ℕ) → ((t : ℕ) → s ≤ t → t < s + n → p t ≡ true) → all p s n ≡ true
 at-all p s zero f = refl
 at-all p s (suc n) f =
-    and-eq-true-iff (p s) (all p (suc s) n) .1 (f s (omega arith) (omega arith), at-all p (suc s) n (λ t l u. f t (omega arith) (omega arith)))
+    and-eq-true-iff (p s) (all p (suc s) n) .1
+    (f s (omega arith) (omega arith), at-all p (suc s) n (λ t l u. f t (omega arith) (omega arith)))
 
 -- a slot is in place where it is empty or its owner belongs there
 abbrev pub placed : ℕ → (ℕ → ℕ) → ℕ → Bool
@@ -222,14 +225,16 @@ owned-same {h} o e =
 pub owned : (h : ℕ) (f : ℕ → ℕ) → badSlot h (from f 0 (slots h)) ≡ Nothing → Owned h f
 unfolding isNothing
 owned h f e =
-    let facts = and-eq-true-iff (all (placed h f) 0 (slots h)) (not (not (all (empty f) 0 (slots h)) && eqb (f (topSlot h)) 0)) .0 (sym (bad-all h f) ∙ ap isNothing e) in
+    let facts = and-eq-true-iff (all (placed h f) 0 (slots h)) (not (not (all (empty f) 0 (slots h)) && eqb (f (topSlot h)) 0)) .0
+    (sym (bad-all h f) ∙ ap isNothing e) in
     record {
       belong = λ s i p q.
           ap (belongs h s) (sym q) ∙ sym (place-filled (f s) (belongs h s (f s)) (λ z. omega arith))
           ∙ all-at (placed h f) 0 (slots h) (facts .0) s zero-le (rw zero-add p);
       top = λ z s p.
           eqb-true (f s) 0
-          (all-at (empty f) 0 (slots h) (missing (all (empty f) 0 (slots h)) (eqb (f (topSlot h)) 0) (eq-eqb (f (topSlot h)) 0 z) (facts .1)) s zero-le (rw zero-add p));
+          (all-at (empty f) 0 (slots h) (missing (all (empty f) 0 (slots h)) (eqb (f (topSlot h)) 0) (eq-eqb (f (topSlot h)) 0 z)
+          (facts .1)) s zero-le (rw zero-add p));
     }
   where
     missing : (a b : Bool) → b ≡ true → not (not a && b) ≡ true → a ≡ true
@@ -248,7 +253,8 @@ not-bad h f o =
 
     cached : (k : ℕ) → f (topSlot h) ≡ k → not (not (all (empty f) 0 (slots h)) && eqb (f (topSlot h)) 0) ≡ true
     cached zero e =
-        ap (λ (a : Bool). not (not a && eqb (f (topSlot h)) 0)) (at-all (empty f) 0 (slots h) (λ t l u. eq-eqb (f t) 0 (o .top e t (rw zero-add at u))))
+        ap (λ (a : Bool). not (not a && eqb (f (topSlot h)) 0))
+        (at-all (empty f) 0 (slots h) (λ t l u. eq-eqb (f t) 0 (o .top e t (rw zero-add at u))))
     cached (suc i) e =
         ap (λ (b : Bool). not (not (all (empty f) 0 (slots h)) && b)) (ne-eqb (f (topSlot h)) 0 (λ z. omega arith))
         ∙ ap not (and-false (not (all (empty f) 0 (slots h))))
@@ -287,7 +293,8 @@ facts-formed h c f =
     fine t p (suc i) e = flag-filled (owner c t) (dirty c t) (λ z. omega arith) ∙ le-leb (dirty c t) 1 (f .flag t p)
 
 -- a formed cache stays formed when a slot takes a node that belongs there, if the top's slot is filled or is this one
-pub formed-with : (h : ℕ) (c : List ℕ) (sized : length c ≡ cacheLength h) (s : ℕ) (within : s < slots h) (i d : ℕ) (b : List ℕ) (full : length b ≡ 64)
+pub formed-with : (h : ℕ) (c : List ℕ) (sized : length c ≡ cacheLength h) (s : ℕ) (within : s < slots h) (i d : ℕ) (b : List ℕ)
+    (full : length b ≡ 64)
     → suc i < 2 ^ 64 → belongs h s (suc i) ≡ true → d ≤ 1 → (owner c (topSlot h) ≡ 0 → s ≡ topSlot h) → Formed h c
     → Formed h (withSlot c s (suc i) d b)
 formed-with h c sized s within i d b full small fits flag top f =
@@ -333,7 +340,9 @@ below-empty h = record { at = λ i. omega (arith, below-zeros (cacheLength h) .a
 
 pub owner-empty : (h s : ℕ) → owner (emptyCache h) s ≡ 0
 unfolding owner
-owner-empty h s = number-zeros 256 (part (emptyCache h) (73 * s) 8) (below-take 8 (drop (73 * s) (emptyCache h)) (below-drop (73 * s) (emptyCache h) (below-zeros (cacheLength h))))
+owner-empty h s =
+    number-zeros 256 (part (emptyCache h) (73 * s) 8)
+    (below-take 8 (drop (73 * s) (emptyCache h)) (below-drop (73 * s) (emptyCache h) (below-zeros (cacheLength h))))
 
 pub dirty-empty : (h s : ℕ) → dirty (emptyCache h) s ≡ 0
 unfolding dirty
@@ -400,7 +409,8 @@ top-cached h c s i f p e = go (owner c (topSlot h)) refl
         let one : 8 ^ (h - levelOf (topSlot h)) ≡ 1 = ap (λ (l : ℕ). 8 ^ (h - l)) (level-slot h 0) ∙ ap (λ (k : ℕ). 8 ^ k) (sub-self h) in
         owner-holds c h 0 (z ∙ omega arith)
 
-module _ (h : ℕ) (c : List ℕ) (sized : length c ≡ cacheLength h) (s : ℕ) (within : s < slots h) (o d : ℕ) (b : List ℕ) (full : length b ≡ 64) where
+module _ (h : ℕ) (c : List ℕ) (sized : length c ≡ cacheLength h) (s : ℕ) (within : s < slots h) (o d : ℕ) (b : List ℕ)
+    (full : length b ≡ 64) where
   pub holds-same : (l i : ℕ) → s ≡ slotOf l i → o ≡ suc i → o < 2 ^ 64 → holds (withSlot c s o d b) l i ≡ true
   holds-same l i e p q =
       owner-holds (withSlot c s o d b) l i (ap (owner (withSlot c s o d b)) (sym e) ∙ owner-same h c sized s within o d b full q ∙ p)
@@ -411,9 +421,11 @@ module _ (h : ℕ) (c : List ℕ) (sized : length c ≡ cacheLength h) (s : ℕ)
 
   pub current-same : (a : List ℕ) (l i : ℕ) → s ≡ slotOf l i → o ≡ suc i → o < 2 ^ 64 → current h a (withSlot c s o d b) l i ≡ b
   current-same a l i e p q =
-      current-cached h a (withSlot c s o d b) l i (holds-same l i e p q) ∙ ap (content (withSlot c s o d b)) (sym e) ∙ content-same h c sized s within o d b full
+      current-cached h a (withSlot c s o d b) l i (holds-same l i e p q) ∙ ap (content (withSlot c s o d b)) (sym e)
+      ∙ content-same h c sized s within o d b full
 
   pub current-other : (a : List ℕ) (l i : ℕ) → (slotOf l i ≡ s → ⊥) → current h a (withSlot c s o d b) l i ≡ current h a c l i
   unfolding current
   current-other a l i e =
-      ap₂ {C = List ℕ} (λ (t : Bool) (x : List ℕ). cond t x (cellContent a (cellOf h (node l i)))) (holds-other l i e) (content-other h c sized s within o d b full (slotOf l i) e)
+      ap₂ {C = List ℕ} (λ (t : Bool) (x : List ℕ). cond t x (cellContent a (cellOf h (node l i)))) (holds-other l i e)
+      (content-other h c sized s within o d b full (slotOf l i) e)

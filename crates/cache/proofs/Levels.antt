@@ -37,7 +37,8 @@ module _ (l n : ℕ) (c : List ℕ) (s : ℕ) where
     opened = rw (e, f)
 
     pub fits-empty : o ≡ 0 → eqb d 0 ≡ fits l n c s
-    fits-empty p = sym (opened ∙ ap (λ (b : Bool). leb d (cond b 0 1) && (b || (leb o n && eqb (slotOf l (o - 1)) s))) (eq-eqb o 0 p) ∙ sym (least d))
+    fits-empty p =
+        sym (opened ∙ ap (λ (b : Bool). leb d (cond b 0 1) && (b || (leb o n && eqb (slotOf l (o - 1)) s))) (eq-eqb o 0 p) ∙ sym (least d))
 
     module _ (p : o ≡ 0 → ⊥) where
       filled : (b : Bool) → leb d 1 ≡ b → fits l n c s ≡ (b && (leb o n && eqb (slotOf l (o - 1)) s))

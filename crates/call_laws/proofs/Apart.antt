@@ -37,7 +37,8 @@ Other h y x = x .number ≡ cellOf h y → ⊥
 
 module _ (h : ℕ) (c : List ℕ) (f : Formed h c) (p : ℕ) (page : p < pages h) (y : Item) (there : InMap h y)
     (no-shadow : (s : ℕ) → shadow s ≡ y → ⊥)
-    (no-owner : (l : ℕ) → l ≤ h → holds c l (onPath p l) ≡ false → dirty c (slotOf l (onPath p l)) ≡ 1 → node l (owner c (slotOf l (onPath p l)) - 1) ≡ y → ⊥) where
+    (no-owner : (l : ℕ) → l ≤ h → holds c l (onPath p l) ≡ false → dirty c (slotOf l (onPath p l)) ≡ 1
+    → node l (owner c (slotOf l (onPath p l)) - 1) ≡ y → ⊥) where
   other : (x : Item) → InMap h x → (x ≡ y → ⊥) → cellOf h x ≡ cellOf h y → ⊥
   other x m e q = e (cell-injective h x y m there q)
 
@@ -52,7 +53,8 @@ module _ (h : ℕ) (c : List ℕ) (f : Formed h c) (p : ℕ) (page : p < pages h
       last = more {x = shadowCell h (slotOf l i) (suc i)} (other (shadow (slotOf l i)) (slot-within h l i q) (no-shadow (slotOf l i))) none
 
       go : (t : Bool) → holds c l i ≡ t → (u : Bool) → eqb (dirty c (slotOf l i)) 1 ≡ u
-          → Each (Other h y) (cond t [] (cond u (nodeCell h l (owner c (slotOf l i) - 1) (content c (slotOf l i)) ∷ []) [] ++ (shadowCell h (slotOf l i) (suc i) ∷ [])))
+          → Each (Other h y) (cond t [] (cond u (nodeCell h l (owner c (slotOf l i) - 1) (content c (slotOf l i)) ∷ []) []
+          ++ (shadowCell h (slotOf l i) (suc i) ∷ [])))
       go true e u d = none
       go false e true d =
           let one = eqb-true (dirty c (slotOf l i)) 1 d in

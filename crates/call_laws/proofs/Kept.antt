@@ -37,7 +37,9 @@ use Rattle.calls.specs.Read.{Reading, answered, pageBlock, lineMinor, refusedRe
 use Rattle.calls.specs.Read.{sideOk, lineText, readLoaded, readPath, readJudged, read}
 use Rattle.calls.specs.Write.{newMinor, newBlock, stopLoss, dataCell, writeBatch, writeStores}
 use Rattle.calls.specs.Write.{writtenCache, writeLoaded, writePath, writeJudged, write}
+use Rattle.call_laws.specs.Line.{lineCell, blockCells}
 use Rattle.call_laws.proofs.Judged.{Opened, Accepted, access-accepted, head-of}
+use Rattle.call_laws.proofs.Line.{Lent, all-length, all-sound, block-few}
 use Rattle.call_laws.proofs.Loads.{Sound, Fit, Loads, LoadsIf, path-loads, sound-node, zeros-bytes}
 
 -- the buffers of a module hold bytes
@@ -205,26 +207,6 @@ module _ {keys : List ℕ} {n : ℕ} {buffer : List ℕ} {m : Module} (g : Given
     abbrev mi : ℕ
     mi = newMinor c n
 
-    data-size : length (dataCell keys n buffer c .bytes) ≡ 72
-    unfolding dataCell
-    data-size =
-        let full = ok .entry .buffer in
-        let d = xorBytes buffer (pad keys n ma mi) in
-        let xored : length d ≡ 64 = length-xor buffer (pad keys n ma mi) (rw (length-pad, full) (le-refl 64)) ∙ full in
-        length-append d (sideBytes keys d n ma mi) ∙ omega (arith, length-digits 256 7 (dataTag keys d n ma mi))
-
-    data-bytes : Below 256 (dataCell keys n buffer c .bytes)
-    unfolding dataCell
-    data-bytes =
-        let p = pad keys n ma mi in
-        let d = xorBytes buffer p in
-        below-append d (sideBytes keys d n ma mi) (below-xor buffer p plain (below-pad keys n _ _))
-        (below-cons (omega arith) (below-digits 256 7 _ (lit< tt)))
-
-    data-inside : dataCell keys n buffer c .number < cells h
-    unfolding dataCell InMap cellOf
-    data-inside = cell-within h (line n) (ok .entry .inside)
-
     block-size : length (newBlock c n) ≡ 64
     unfolding newBlock
     block-size = length-withMinor (pageBlock c n) (placeOf n) mi
@@ -233,30 +215,25 @@ module _ {keys : List ℕ} {n : ℕ} {buffer : List ℕ} {m : Module} (g : Given
     unfolding newBlock
     block-bytes = below-withMinor (pageBlock c n) (placeOf n) mi
 
-    abbrev stopCells : Bool → List Cell
-    stopCells t = cond t (nodeCell h 0 (pageOf n) (newBlock c n) ∷ []) []
-
-    stop-sound : (t : Bool) → Each (Sound h) (stopCells t)
-    unfolding InMap nodes pages
-    stop-sound true = more (sound-node h 0 (pageOf n) (newBlock c n) (zero-le, rw sub-zero page) block-size block-bytes) none
-    stop-sound false = none
-
-    stop-few : (t : Bool) → length (stopCells t) ≤ 1
-    stop-few true = le-refl 1
-    stop-few false = zero-le
+    lent : Lent h n buffer (newBlock c n)
+    lent =
+        record {
+          inside = ok .entry .inside;
+          full = ok .entry .buffer;
+          text-bytes = plain;
+          wide = block-size;
+          block-bytes = block-bytes;
+        }
 
     pub batch-sound : (x : List Cell) → Each (Sound h) x → Each (Sound h) (writeBatch h keys n buffer c x)
-    unfolding writeBatch
-    batch-sound x s =
-        each-append (each-append s (stop-sound (stopLoss c n)))
-        (more (record { inside = data-inside; size = data-size; bytes = data-bytes }) none)
+    unfolding writeBatch dataCell lineCell blockCells
+    batch-sound x s = all-sound h keys n buffer ma mi (newBlock c n) x lent s
 
     -- the bound on a batch: at most 2h + 2 cells
     pub batch-bound : (x : List Cell) → length x ≤ 2 * h → length (writeBatch h keys n buffer c x) ≤ 2 * h + 2
-    unfolding writeBatch
+    unfolding writeBatch dataCell lineCell blockCells
     batch-bound x few =
-        let stop = stopCells (stopLoss c n) in
-        omega (arith, length-append (x ++ stop) (dataCell keys n buffer c ∷ []), length-append x stop, stop-few (stopLoss c n))
+        omega (arith, all-length h keys n buffer ma mi (newBlock c n) x, block-few h (pageOf n) mi (newBlock c n))
 
     loaded-kept : (a : ℕ) (x : List Cell) → Loads h c x → Kept m ((writeLoaded keys n buffer a m c x) .after)
     unfolding writeLoaded writeStores writtenCache

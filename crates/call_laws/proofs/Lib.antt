@@ -5,6 +5,7 @@ pub mod Fresh
 pub mod FreshCells
 pub mod Judged
 pub mod Kept
+pub mod Line
 pub mod Loading
 pub mod Loads
 pub mod Rebuilt

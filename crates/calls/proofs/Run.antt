@@ -1,11 +1,13 @@
 -- One name whose `unfolding` opens every definition that an evaluated example runs. Assumes nothing.
 use Prim.Native.Nat.{ℕ}
 use Rattle.answer.specs.Answer.{codeOf, storesOf, firstOf, secondOf}
-use Rattle.cache.specs.Cache.{owner, dirty, content, withSlot, cellContent, shadowOwner, from, stray, anyOwner, missingTop, orElse, badSlot, flagsFormed, isNothing, formed, holds, current}
+use Rattle.cache.specs.Cache.{owner, dirty, content, withSlot, cellContent, shadowOwner, from, stray, anyOwner, missingTop, orElse, badSlot}
+use Rattle.cache.specs.Cache.{flagsFormed, isNothing, formed, holds, current}
 use Rattle.calls.specs.Call.{judged, accessRefusal, storing}
 use Rattle.calls.specs.Read.{sideOk, lineText, answered, readLoaded, readPath, readJudged}
 use Rattle.calls.specs.Write.{newBlock, dataCell, writeBatch, writeStores, writtenCache, writeLoaded, writePath, writeJudged}
-use Rattle.calls.specs.Recovery.{recoveryRefusal, forwardFrom, total, rebuildBlock, rebuildSlot, rebuildBlocks, rebuildNode, rebuildNodes, recoverRoot, recoverRebuilt, recoverShadow, recoverJudged}
+use Rattle.calls.specs.Recovery.{recoveryRefusal, forwardFrom, total, rebuildBlock, rebuildSlot, rebuildBlocks, rebuildNode}
+use Rattle.calls.specs.Recovery.{rebuildNodes, recoverRoot, recoverRebuilt, recoverShadow, recoverJudged}
 use Rattle.calls.specs.Format.{formatRefusal, countsFrom, freshNode, nodeCells, levelCells, freshArray, formatted, format}
 use Rattle.calls.specs.DirtyPages.{listRefusal, dirtyPages, occurrences, ListCall}
 use Rattle.calls.specs.ForC.{codeForC, bufferForC, leftForC}
@@ -23,5 +25,14 @@ use Rattle.words.specs.Bytes.{number, digits, wordsOf, bytesOf}
 use Rattle.words.specs.Rotate.{rotl}
 
 unfoldable pub run : ℕ
-unfolding codeOf storesOf firstOf secondOf owner dirty content withSlot cellContent shadowOwner from stray anyOwner missingTop orElse badSlot flagsFormed isNothing formed holds current judged formatRefusal recoveryRefusal accessRefusal listRefusal storing countsFrom freshNode nodeCells levelCells freshArray formatted format sideOk lineText answered readLoaded readPath readJudged newBlock dataCell writeBatch writeStores writtenCache writeLoaded writePath writeJudged forwardFrom total rebuildBlock rebuildSlot rebuildBlocks rebuildNode rebuildNodes recoverRoot recoverRebuilt recoverShadow recoverJudged dirtyPages occurrences ListCall codeForC bufferForC leftForC evicted loadNode loadLevels renewed renewPath tagsFrom quarter quarterRound columnRound diagonalRound rounds addStates start serialised block depth root count newRoot queued places queue inMap validHead valid freshControl major minors counterBlock withMinor forward mayForward store storeAll stages finish batchStores pendingStores pages lines nodes levelStart slots shadowStart shadowCells cells arrayLength cacheLength cellOf InMap slotOf levelOf belongs pad xorBytes initial lastWord messageWords sipRound compress compressAll finalize sipHash nodeInput nodeTag dataInput dataTag number digits wordsOf bytesOf rotl
+unfolding codeOf storesOf firstOf secondOf owner dirty content withSlot cellContent shadowOwner from stray anyOwner missingTop orElse
+    badSlot flagsFormed isNothing formed holds current judged formatRefusal recoveryRefusal accessRefusal listRefusal storing countsFrom
+    freshNode nodeCells levelCells freshArray formatted format sideOk lineText answered readLoaded readPath readJudged newBlock dataCell
+    writeBatch writeStores writtenCache writeLoaded writePath writeJudged forwardFrom total rebuildBlock rebuildSlot rebuildBlocks
+    rebuildNode rebuildNodes recoverRoot recoverRebuilt recoverShadow recoverJudged dirtyPages occurrences ListCall codeForC bufferForC
+    leftForC evicted loadNode loadLevels renewed renewPath tagsFrom quarter quarterRound columnRound diagonalRound rounds addStates start
+    serialised block depth root count newRoot queued places queue inMap validHead valid freshControl major minors counterBlock withMinor
+    forward mayForward store storeAll stages finish batchStores pendingStores pages lines nodes levelStart slots shadowStart shadowCells
+    cells arrayLength cacheLength cellOf InMap slotOf levelOf belongs pad xorBytes initial lastWord messageWords sipRound compress
+    compressAll finalize sipHash nodeInput nodeTag dataInput dataTag number digits wordsOf bytesOf rotl
 run = 0

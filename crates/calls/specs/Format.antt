@@ -46,7 +46,15 @@ formatRefusal keys h m = judged
 
 unfoldable pub formatted : List ℕ → ℕ → Called
 formatted keys h =
-    record { answer = Done 0 0; after = record { array = freshArray keys h; control = freshControl h (freshRoot keys (λ x. 0) h); cache = emptyCache h } }
+    record {
+      answer = Done 0 0;
+      after = record {
+        array = freshArray keys h;
+        control = freshControl h
+            (freshRoot keys (λ x. 0) h);
+        cache = emptyCache h;
+      };
+    }
 
 unfoldable pub format : List ℕ → ℕ → Module → Called
 format keys h m =

@@ -17,7 +17,8 @@ unfolding quarter sumRow mixRow quarterRows
 quarter-steps s e1 e2 e3 e4 e5 e6 e7 e8 = rw (e8, e7, e6, e5, e4, e3, e2, e1)
 
 -- a column round, and a diagonal round on the turned rows
-pub rounds-flat : (s : List (List ℕ)) → flat (turned 3 2 1 (quarterRows (turned 1 2 3 (quarterRows s)))) ≡ diagonalRound (columnRound (flat s))
+pub rounds-flat : (s : List (List ℕ)) → flat (turned 3 2 1 (quarterRows (turned 1 2 3 (quarterRows s))))
+    ≡ diagonalRound (columnRound (flat s))
 unfolding quarterRound columnRound diagonalRound flat quarterRows
 rounds-flat s = refl
 

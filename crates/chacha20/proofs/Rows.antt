@@ -48,7 +48,8 @@ put-row s at r h e1 e2 e3 e4 =
     e4 ∙ ap (λ (b : List ℕ). put b (at + 12) (toLe 4 (getD r 3 0))) f3
     ∙ put-word 4 s at (getD r 0 0 ∷ getD r 1 0 ∷ getD r 2 0 ∷ []) (getD r 3 0) (omega arith)
 
-flat-rows : (a b c d : List ℕ) → length a ≡ 4 → length b ≡ 4 → length c ≡ 4 → length d ≡ 4 → flat (a ∷ b ∷ c ∷ d ∷ []) ≡ a ++ (b ++ (c ++ d))
+flat-rows : (a b c d : List ℕ) → length a ≡ 4 → length b ≡ 4 → length c ≡ 4 → length d ≡ 4 → flat (a ∷ b ∷ c ∷ d ∷ []) ≡ a
+    ++ (b ++ (c ++ d))
 unfolding flat
 flat-rows a b c d ha hb hc hd = λ i. four a ha i ++ (four b hb i ++ (four c hc i ++ four d hd i))
 
@@ -60,7 +61,8 @@ key-rows key = (λ i. words-take 4 4 key i ++ words-take 4 4 (drop 16 key) i) �
 pub start-flat : (key last : List ℕ) → length last ≡ 4
     → flat (constants ∷ wordsOf 4 4 (part key 0 16) ∷ wordsOf 4 4 (part key 16 16) ∷ last ∷ []) ≡ constants ++ (wordsOf 4 8 key ++ last)
 start-flat key last h =
-    flat-rows constants (wordsOf 4 4 (part key 0 16)) (wordsOf 4 4 (part key 16 16)) last refl (length-words 4 4 (part key 0 16)) (length-words 4 4 (part key 16 16)) h
+    flat-rows constants (wordsOf 4 4 (part key 0 16)) (wordsOf 4 4 (part key 16 16)) last refl (length-words 4 4 (part key 0 16))
+    (length-words 4 4 (part key 16 16)) h
     ∙ ap (λ (l : List ℕ). constants ++ l)
     (sym (append-assoc (wordsOf 4 4 (part key 0 16)) (wordsOf 4 4 (part key 16 16)) last) ∙ ap (λ (l : List ℕ). l ++ last) (key-rows key))
 

@@ -64,7 +64,8 @@ module _ (k : List ℕ) where
 
         pub depth-high : 3 < getD k 5 0 → false ≡ validHead k
         depth-high p =
-            sym (right-start ∙ ap₂ (λ (a b : Bool). a && b && leb (getD k 15 0) 8) (le-leb 1 (getD k 5 0) (omega arith)) (lt-leb (getD k 5 0) 3 p))
+            sym (right-start ∙ ap₂ (λ (a b : Bool). a && b && leb (getD k 15 0) 8) (le-leb 1 (getD k 5 0) (omega arith))
+            (lt-leb (getD k 5 0) 3 p))
 
         pub right-depth : 1 ≤ getD k 5 0 → getD k 5 0 ≤ 3 → leb (getD k 15 0) 8 ≡ validHead k
         right-depth p q =
@@ -107,7 +108,8 @@ places-from s at n j h =
 -- the cell numbers from place j on: place j is past the bound, or only those after it count
 module _ (bound : ℕ) (s : List ℕ) (at n j : ℕ) where
   in-map-from : j < n
-      → inMap bound (places s (at + 80 * j) (n - j)) ≡ ltb (fromLe (part s (at + 80 * j) 8)) bound && inMap bound (places s (at + 80 * (j + 1)) (n - (j + 1)))
+      → inMap bound (places s (at + 80 * j) (n - j)) ≡ ltb (fromLe (part s (at + 80 * j) 8)) bound
+      && inMap bound (places s (at + 80 * (j + 1)) (n - (j + 1)))
   unfolding inMap queued
   in-map-from h = ap (inMap bound) (places-from s at n j h)
 
@@ -246,7 +248,8 @@ module _ (k t : List ℕ) where
       let same : start ≡ eqb (fromLe (part t 0 4)) mark && eqb (getD t 4 0) 1 && eqb (getD t 6 0) 1 && leb 1 (depth t) && leb (depth t) 3 =
       ap₂ (λ (l : List ℕ) (x : ℕ). eqb (fromLe l) mark && eqb x 1 && eqb (getD k 6 0) 1 && leb 1 (depth k) && leb (depth k) 3)
       (sym (take-take 4 7 k (lit≤ tt)) ∙ ap (take 4) e ∙ take-take 4 7 t (lit≤ tt)) (front 7 e 4 (lit< tt))
-      ∙ ap₂ (λ (x y : ℕ). eqb (fromLe (part t 0 4)) mark && eqb (getD t 4 0) 1 && eqb x 1 && leb 1 y && leb y 3) (front 7 e 6 (lit< tt)) (front 7 e 5 (lit< tt)) in
+      ∙ ap₂ (λ (x y : ℕ). eqb (fromLe (part t 0 4)) mark && eqb (getD t 4 0) 1 && eqb x 1 && leb 1 y && leb y 3) (front 7 e 6 (lit< tt))
+      (front 7 e 5 (lit< tt)) in
       ap₂ (λ (a b : Bool). a && b) (sym same ∙ and-eq-true-iff start (leb (count k) 8) .0 v .0) (le-leb (count t) 8 h)
 
 -- ---- validity

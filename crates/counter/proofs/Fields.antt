@@ -40,7 +40,8 @@ module _ (w n k x : ℕ) (hk : n + k ≤ w) (hx : x < 2 ^ w) where
       let d = le-dest hk in
       let e : d .0 + n + k ≡ w = omega (arith, d .1) in
       let hq : x / 2 ^ k / 2 ^ n < 2 ^ (d .0) = shr-lt (d .0) n (shr-lt (d .0 + n) k (subst (λ (m : ℕ). x < 2 ^ m) (sym e) hx)) in
-      let new : (x / 2 ^ k / 2 ^ n * 2 ^ n + v) * 2 ^ k + x % 2 ^ k < 2 ^ (d .0) * 2 ^ n * 2 ^ k = digits-lt (digits-lt hq hv) (mod-lt x (pow-pos k)) in
+      let new : (x / 2 ^ k / 2 ^ n * 2 ^ n + v) * 2 ^ k + x % 2 ^ k
+      < 2 ^ (d .0) * 2 ^ n * 2 ^ k = digits-lt (digits-lt hq hv) (mod-lt x (pow-pos k)) in
       let size : 2 ^ w ≡ 2 ^ (d .0) * 2 ^ n * 2 ^ k =
       ap (λ (m : ℕ). 2 ^ m) (sym e) ∙ pow-add 2 (d .0 + n) k ∙ ap (λ (y : ℕ). y * 2 ^ k) (pow-add 2 (d .0) n) in
       omega (arith, replace v hv, parts n k x)

@@ -10,7 +10,9 @@ use lib.Pow.{pow-add}
 use lib.ListN.{length, take, drop, getD, set, replicate, length-append, length-take, length-drop, length-set, take-append-drop}
 use lib.Seq.{take-at, drop-at, getD-set-same, getD-set-other}
 use Rattle.words.specs.Bytes.{number, digits, fromLe, toLe, part, put}
-use Rattle.words.proofs.Digits.{Below, below-append, below-take, below-drop, below-set, length-digits, below-digits, getD-digits, number-append, number-drop, number-take, number-exact, digits-exact, number-lt-exact, pow-mul, number-inj, number-set}
+use Rattle.words.proofs.Digits.{Below, below-append, below-take, below-drop, below-set, length-digits, below-digits, getD-digits}
+use Rattle.words.proofs.Digits.{number-append, number-drop, number-take, number-exact, digits-exact, number-lt-exact, pow-mul, number-inj}
+use Rattle.words.proofs.Digits.{number-set}
 use Rattle.words.proofs.Parts.{number-part, below-put, length-put, number-put}
 use Rattle.counter.proofs.Fields.{field-cut, replace, replace-lt}
 use Rattle.counter.specs.Counter.{major, minors, minor, counterBlock, withMinor, forward}
@@ -65,7 +67,8 @@ counterBlock-eta b hl hb =
     ∙ take-append-drop 8 b
 
 -- a block's number
-number-counterBlock : (m : ℕ) (ms : List ℕ) → m < 2 ^ 64 → length ms ≡ 64 → Below 128 ms → fromLe (counterBlock m ms) ≡ m + 2 ^ 64 * number 128 ms
+number-counterBlock : (m : ℕ) (ms : List ℕ) → m < 2 ^ 64 → length ms ≡ 64 → Below 128 ms → fromLe (counterBlock m ms)
+    ≡ m + 2 ^ 64 * number 128 ms
 unfolding counterBlock
 number-counterBlock m ms hm hl hb =
     number-append 256 (toLe 8 m) (toLe 56 (number 128 ms))
@@ -130,7 +133,8 @@ number-withMinor : (b : List ℕ) (j v : ℕ) → length b ≡ 64 → Below 256 
     → fromLe (withMinor b j v) + minor b j * (2 ^ 64 * 128 ^ j) ≡ fromLe b + v * (2 ^ 64 * 128 ^ j)
 unfolding withMinor
 number-withMinor b j v hl hb hj hv =
-    let old = ap fromLe (sym (counterBlock-eta b hl hb)) ∙ number-counterBlock (major b) (minors b) (major-lt b hb) (length-minors b) (below-minors b) in
+    let old = ap fromLe (sym (counterBlock-eta b hl hb))
+    ∙ number-counterBlock (major b) (minors b) (major-lt b hb) (length-minors b) (below-minors b) in
     let new =
     number-counterBlock (major b) (set (minors b) j v) (major-lt b hb) (length-set-minors b j v) (below-set-minors b j v hv)
     in

@@ -101,12 +101,14 @@ unfolding dirtyPages
 few-pages c s zero = zero-le
 few-pages c s (suc n) = go (eqb (dirty c s) 1) (few-pages c (suc s) n)
   where
-    go : (b : Bool) → length (dirtyPages c (suc s) n) ≤ n → length (cond b ((owner c s - 1) ∷ dirtyPages c (suc s) n) (dirtyPages c (suc s) n)) ≤ suc n
+    go : (b : Bool) → length (dirtyPages c (suc s) n) ≤ n
+        → length (cond b ((owner c s - 1) ∷ dirtyPages c (suc s) n) (dirtyPages c (suc s) n)) ≤ suc n
     go true p = suc-le-suc p
     go false p = omega arith
 
 -- the page of slot s, where it is dirty, is behind those of the slots below
-pages-next : (c : List ℕ) (s : ℕ) (b : Bool) → eqb (dirty c s) 1 ≡ b → dirtyPages c 0 (s + 1) ≡ dirtyPages c 0 s ++ cond b ((owner c s - 1) ∷ []) []
+pages-next : (c : List ℕ) (s : ℕ) (b : Bool) → eqb (dirty c s) 1 ≡ b → dirtyPages c 0 (s + 1) ≡ dirtyPages c 0 s
+    ++ cond b ((owner c s - 1) ∷ []) []
 unfolding dirtyPages
 pages-next c s b e =
     pages-snoc c 0 s
@@ -127,7 +129,8 @@ written-none c out = record { count = refl; few = zero-le; bytes = sym (put-nil 
 module _ {c out₀ out : List ℕ} {n s : ℕ} (w : Written c out₀ out n s) where
   pub written-clean : (dirty c s ≡ 1 → ⊥) → (after : List ℕ) (k : ℕ) → after ≡ out → k ≡ n → Written c out₀ after k (s + 1)
   written-clean d after k e q =
-      let same : dirtyPages c 0 (s + 1) ≡ dirtyPages c 0 s = pages-next c s false (ne-eqb (dirty c s) 1 d) ∙ append-nil (dirtyPages c 0 s) in
+      let same : dirtyPages c 0 (s + 1) ≡ dirtyPages c 0 s = pages-next c s false (ne-eqb (dirty c s) 1 d)
+      ∙ append-nil (dirtyPages c 0 s) in
       record {
         count = q ∙ w .count ∙ ap length (sym same);
         few = omega arith;
@@ -189,7 +192,8 @@ spare-next {out₀} {out} {n} {i} w after p q l e =
 
 -- ---- the call
 
-pub refused : (control cache out : List ℕ) (n : ℕ) → n ≡ listRefusal control cache out → (n ≡ 0 → ⊥) → ListCall control cache out (Refused n 0 0 0) out
+pub refused : (control cache out : List ℕ) (n : ℕ) → n ≡ listRefusal control cache out → (n ≡ 0 → ⊥)
+    → ListCall control cache out (Refused n 0 0 0) out
 unfolding ListCall
 refused control cache out zero e p = absurd (p refl)
 refused control cache out (suc n) e p = rw (ListCall, ← e) (refl, refl)
@@ -202,7 +206,8 @@ filled s xs ys e =
     ∙ ap (λ (l : List ℕ). (xs ++ ys) ++ l) (drop-of-length-le s all) ∙ append-nil (xs ++ ys)
 
 pub listed : (control cache out after : List ℕ) (n : ℕ) → 0 ≡ listRefusal control cache out → n ≡ length (dirtyPages cache 0 4)
-    → after ≡ put (put out 0 (bytesOf 8 (dirtyPages cache 0 4))) (8 * n) (replicate (32 - 8 * n) 255) → ListCall control cache out (Done 0 0) after
+    → after ≡ put (put out 0 (bytesOf 8 (dirtyPages cache 0 4))) (8 * n) (replicate (32 - 8 * n) 255)
+    → ListCall control cache out (Done 0 0) after
 unfolding ListCall
 listed control cache out after n r e p =
     let xs = dirtyPages cache 0 4 in

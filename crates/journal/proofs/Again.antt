@@ -19,8 +19,10 @@ use Rattle.control.proofs.Laws.{count-at, length-places, same-count, same-new-r
 use Rattle.journal.specs.Journal.{Store, Media, media, store, storeAll, finish, batchStores, pendingStores, made}
 use Rattle.journal.specs.Journal.Store.{cell, root, clear}
 use Rattle.journal.proofs.Each.{Each, none, more, each-append, each-take}
-use Rattle.journal.proofs.Laws.{length-finish, length-batch, made-all, pending-some, pending-none, finish-cells, finish-root, store-append}
-use Rattle.journal.proofs.Queue.{Whole, whole-places, laid, length-laid, committed, committed-count, committed-queue, committed-pending, cut-staged, cut-committed}
+use Rattle.journal.proofs.Laws.{length-finish, length-batch, made-all, pending-some, pending-none, finish-cells, finish-root}
+use Rattle.journal.proofs.Laws.{store-append}
+use Rattle.journal.proofs.Queue.{Whole, whole-places, laid, length-laid, committed, committed-count, committed-queue}
+use Rattle.journal.proofs.Queue.{committed-pending, cut-staged, cut-committed}
 use Rattle.journal.proofs.Kept.{Formed, within-batch, made-kept}
 
 -- ---- cells stored in an array
@@ -59,7 +61,8 @@ module _ (n : ℕ) where
   length-cell a {c} i l = length-put a (72 * c .number) (c .bytes) (omega (arith, i .size, i .fits)) ∙ l
 
   -- a cell that a later one covers
-  over : (a : List ℕ) {c d : Cell} → Inside n c → Inside n d → length a ≡ n → c .number ≡ d .number → put-cell (put-cell a c) d ≡ put-cell a d
+  over : (a : List ℕ) {c d : Cell} → Inside n c → Inside n d → length a ≡ n → c .number ≡ d .number → put-cell (put-cell a c) d
+      ≡ put-cell a d
   over a {c} {d} i j l e =
       ap (λ (x : ℕ). put (put a (72 * x) (c .bytes)) (72 * d .number) (d .bytes)) e
       ∙ put-put a (72 * d .number) (c .bytes) (omega (arith, i .size, j .fits)) (d .bytes) (omega (arith, i .size, j .size))
@@ -96,7 +99,8 @@ module _ (n : ℕ) where
       ∙ redone (put-cell a x) {zs = zs ++ (x ∷ [])} ys (each-append js (more i none)) is (length-cell a i l)
       ∙ ap (put-cells (put-cell a x)) shift ∙ hidden a (xs ++ ys) i js l
 
-  cells-again : (a : List ℕ) (j : ℕ) {cs : List Cell} → Each (Inside n) cs → length a ≡ n → put-cells (put-cells a (take j cs)) cs ≡ put-cells a cs
+  cells-again : (a : List ℕ) (j : ℕ) {cs : List Cell} → Each (Inside n) cs → length a ≡ n → put-cells (put-cells a (take j cs)) cs
+      ≡ put-cells a cs
   cells-again a j {cs} is l =
       subst (λ (ds : List Cell). put-cells (put-cells a (take j cs)) ds ≡ put-cells a ds) (take-append-drop j cs)
       (redone a (drop j cs) none (each-take j is) l)
@@ -110,17 +114,20 @@ rooted k r = put k 7 (toLe 8 r)
 abbrev pub cleared : List ℕ → List ℕ
 cleared k = put k 15 (0 ∷ [])
 
-pub finish-stores : (m : Media) (cs : List Cell) (r : ℕ) → storeAll m (finish cs r) ≡ media (put-cells (m .array) cs) (cleared (rooted (m .control) r))
+pub finish-stores : (m : Media) (cs : List Cell) (r : ℕ) → storeAll m (finish cs r)
+    ≡ media (put-cells (m .array) cs) (cleared (rooted (m .control) r))
 unfolding finish storeAll store
 finish-stores m cs r =
     store-append m (map cell cs) (root r ∷ clear ∷ [])
     ∙ ap (λ (x : Media). storeAll x (root r ∷ clear ∷ [])) (cells-stores m cs)
 
 -- the cells and the root alone
-pub root-stores : (m : Media) (cs : List Cell) (r : ℕ) → storeAll m (take (length cs + 1) (finish cs r)) ≡ media (put-cells (m .array) cs) (rooted (m .control) r)
+pub root-stores : (m : Media) (cs : List Cell) (r : ℕ) → storeAll m (take (length cs + 1) (finish cs r))
+    ≡ media (put-cells (m .array) cs) (rooted (m .control) r)
 unfolding storeAll store
 root-stores m cs r =
-    ap (storeAll m) (finish-root cs r) ∙ store-append m (map cell cs) (root r ∷ []) ∙ ap (λ (x : Media). store x (root r)) (cells-stores m cs)
+    ap (storeAll m) (finish-root cs r) ∙ store-append m (map cell cs) (root r ∷ [])
+    ∙ ap (λ (x : Media). store x (root r)) (cells-stores m cs)
 
 module _ (k : List ℕ) (size : length k ≡ controlLength) where
   pub rooted-pending : (r : ℕ) → pendingStores (rooted k r) ≡ pendingStores k
@@ -187,35 +194,42 @@ module _ (size : ℕ) (m : Media) (f : Formed size m) (few : count (m .control) 
   long = length-put (m .control) 7 (toLe 8 r) (omega (arith, word, f .control-length)) ∙ f .control-length
 
   -- finishing from s, which is t
-  resumed : {s t g : Media} {xs : List Store} → s ≡ t → pendingStores (t .control) ≡ xs → storeAll t xs ≡ g → storeAll s (pendingStores (s .control)) ≡ g
+  resumed : {s t g : Media} {xs : List Store} → s ≡ t → pendingStores (t .control) ≡ xs → storeAll t xs ≡ g
+      → storeAll s (pendingStores (s .control)) ≡ g
   resumed {t = t} p q h = ap (λ (x : Media). storeAll x (pendingStores (x .control))) p ∙ ap (storeAll t) q ∙ h
 
   -- however many of the pending stores were made, those that are pending then leave what all of them leave
   pub again : (j : ℕ)
-      → storeAll (storeAll m (made j (pendingStores (m .control)))) (pendingStores (storeAll m (made j (pendingStores (m .control))) .control))
+      → storeAll (storeAll m (made j (pendingStores (m .control))))
+      (pendingStores (storeAll m (made j (pendingStores (m .control))) .control))
       ≡ storeAll m (pendingStores (m .control))
   unfolding storeAll
   again j = go (lt-or-ge 0 (count (m .control)))
     where
       some : 0 < count (m .control) → (j < length cs + 1) ⊎ ((j ≡ length cs + 1) ⊎ (length cs + 1 < j))
-          → storeAll (storeAll m (made j (pendingStores (m .control)))) (pendingStores (storeAll m (made j (pendingStores (m .control))) .control)) ≡ done
+          → storeAll (storeAll m (made j (pendingStores (m .control))))
+          (pendingStores (storeAll m (made j (pendingStores (m .control))) .control)) ≡ done
       some h (inl p) =
           let all = pending-some (m .control) h in
-          resumed (ap (λ (xs : List Store). storeAll m (take j xs)) all ∙ ap (storeAll m) (finish-cells j cs r (omega arith)) ∙ cells-stores m (take j cs))
+          resumed (ap (λ (xs : List Store). storeAll m (take j xs)) all ∙ ap (storeAll m) (finish-cells j cs r (omega arith))
+          ∙ cells-stores m (take j cs))
           all (from-cells j)
       some h (inr (inl p)) =
           let all = pending-some (m .control) h in
-          resumed (ap₂ {C = Media} (λ (i : ℕ) (xs : List Store). storeAll m (take i xs)) p all ∙ ap (storeAll m) (finish-root cs r) ∙ after-root)
+          resumed (ap₂ {C = Media} (λ (i : ℕ) (xs : List Store). storeAll m (take i xs)) p all ∙ ap (storeAll m) (finish-root cs r)
+          ∙ after-root)
           (rooted-pending (m .control) (f .control-length) r ∙ all) from-root
       some h (inr (inr p)) =
           let all = pending-some (m .control) h in
           resumed
-          (ap (λ (xs : List Store). storeAll m (take j xs)) all ∙ ap (storeAll m) (take-all j (finish cs r) (omega (arith, length-finish cs r)))
+          (ap (λ (xs : List Store). storeAll m (take j xs)) all
+          ∙ ap (storeAll m) (take-all j (finish cs r) (omega (arith, length-finish cs r)))
           ∙ finish-stores m cs r)
           (cleared-pending (rooted (m .control) r) long) refl
 
       go : (0 < count (m .control)) ⊎ (count (m .control) ≤ 0)
-          → storeAll (storeAll m (made j (pendingStores (m .control)))) (pendingStores (storeAll m (made j (pendingStores (m .control))) .control))
+          → storeAll (storeAll m (made j (pendingStores (m .control))))
+          (pendingStores (storeAll m (made j (pendingStores (m .control))) .control))
           ≡ storeAll m (pendingStores (m .control))
       go (inl h) =
           some h (lt-eq-gt j (length cs + 1)) ∙ sym (ap (storeAll m) (pending-some (m .control) h) ∙ finish-stores m cs r)
@@ -242,7 +256,8 @@ module _ (size : ℕ) (a k : List ℕ) (cs : List Cell) (r : ℕ) (f : Formed si
     (e : inMap (size / 72) cs ≡ true) (some : 0 < length cs) (few : length cs ≤ 8) where
   -- before the commit, array and fields are as they were
   pub batch-dropped : (n : ℕ) → n ≤ length cs
-      → (storeAll (media a k) (made n (batchStores cs r)) .array ≡ a) × (part (storeAll (media a k) (made n (batchStores cs r)) .control) 0 24 ≡ part k 0 24)
+      → (storeAll (media a k) (made n (batchStores cs r)) .array ≡ a)
+      × (part (storeAll (media a k) (made n (batchStores cs r)) .control) 0 24 ≡ part k 0 24)
   batch-dropped n h =
       let s = cut-staged k cs r (f .control-length) few ws a n some h in
       let long = length-laid (each-take n ws) in (
@@ -253,7 +268,8 @@ module _ (size : ℕ) (a k : List ℕ) (cs : List Cell) (r : ℕ) (f : Formed si
 
   -- after it, what is pending leaves what the batch leaves uncut
   pub batch-again : (n : ℕ) → r < 2 ^ 64 → length cs < n
-      → storeAll (storeAll (media a k) (made n (batchStores cs r))) (pendingStores (storeAll (media a k) (made n (batchStores cs r)) .control))
+      → storeAll (storeAll (media a k) (made n (batchStores cs r)))
+      (pendingStores (storeAll (media a k) (made n (batchStores cs r)) .control))
       ≡ storeAll (media a k) (batchStores cs r)
   unfolding storeAll
   batch-again n word h =

@@ -1,6 +1,5 @@
--- What stores keep: the lengths of array and control record, bytes as bytes, the record's first 7 bytes (mark, counts, depth), and the cells
--- that they do not name.
--- Assumes nothing.
+-- What stores keep: the lengths of array and control record, bytes as bytes, the record's first 7 bytes (mark, counts,
+-- depth), and the cells that they do not name. Assumes nothing.
 use mathlib.Core.Path.{_≡_, refl, sym, _∙_}
 use mathlib.Core.Logic.{_⊎_, inl, inr}
 use mathlib.Core.Bool.{Bool, true, false, cond, and-eq-true-iff}
@@ -54,11 +53,13 @@ pub within-finish : (bound r : ℕ) {cs : List Cell} → Each Whole cs → inMap
 unfolding finish Within
 within-finish bound r ws e = each-append (within-cells bound ws e) (more {x = root r} tt (more {x = clear} tt none))
 
-pub within-batch : (bound r : ℕ) {cs : List Cell} → Each Whole cs → inMap bound cs ≡ true → length cs ≤ 8 → Each (Within bound) (batchStores cs r)
+pub within-batch : (bound r : ℕ) {cs : List Cell} → Each Whole cs → inMap bound cs ≡ true → length cs ≤ 8
+    → Each (Within bound) (batchStores cs r)
 unfolding batchStores Within
 within-batch bound r none e h = none
 within-batch bound r (more {xs = cs} w ws) e h =
-    each-append (within-stages bound 0 (more w ws) (omega arith)) (more {x = commit (suc (length cs)) r} h (within-finish bound r (more w ws) e))
+    each-append (within-stages bound 0 (more w ws) (omega arith))
+    (more {x = commit (suc (length cs)) r} h (within-finish bound r (more w ws) e))
 
 pub within-pending : (bound : ℕ) (k : List ℕ) → length k ≡ controlLength → Below 256 k → count k ≤ 8 → inMap bound (queue k) ≡ true
     → Each (Within bound) (pendingStores k)
@@ -105,11 +106,13 @@ stores-kept f none = f
 stores-kept f (more {x = x} w ws) = stores-kept (store-kept x f w) ws
 
 -- also where they are cut
-pub made-kept : {size : ℕ} {m : Media} (a : ℕ) {xs : List Store} → Formed size m → Each (Within (size / 72)) xs → Formed size (storeAll m (made a xs))
+pub made-kept : {size : ℕ} {m : Media} (a : ℕ) {xs : List Store} → Formed size m → Each (Within (size / 72)) xs
+    → Formed size (storeAll m (made a xs))
 made-kept a f ws = stores-kept f (each-take a ws)
 
 -- mark, counts and depth
-store-front : {size : ℕ} {m : Media} (x : Store) → Formed size m → Within (size / 72) x → part (store m x .control) 0 7 ≡ part (m .control) 0 7
+store-front : {size : ℕ} {m : Media} (x : Store) → Formed size m → Within (size / 72) x → part (store m x .control) 0 7
+    ≡ part (m .control) 0 7
 unfolding store Within
 store-front {m = m} (stage j c) f w =
     part-put-before (m .control) (placeAt j) (placed c) (omega (arith, length-placed (w .1), f .control-length)) 0 7 (omega arith)
@@ -163,7 +166,8 @@ store-apart {size} n {m} (cell c) f w a = go (lt-eq-gt n (c .number))
     within : 72 * c .number + length (c .bytes) ≤ length (m .array)
     within = omega (arith, w .0, w .1 .size, f .array-length)
 
-    go : (n < c .number) ⊎ ((n ≡ c .number) ⊎ (c .number < n)) → part (put (m .array) (72 * c .number) (c .bytes)) (72 * n) 72 ≡ part (m .array) (72 * n) 72
+    go : (n < c .number) ⊎ ((n ≡ c .number) ⊎ (c .number < n)) → part (put (m .array) (72 * c .number) (c .bytes)) (72 * n) 72
+        ≡ part (m .array) (72 * n) 72
     go (inl p) = part-put-before (m .array) (72 * c .number) (c .bytes) (omega (arith, within)) (72 * n) 72 (omega arith)
     go (inr (inl p)) = absurd (a (sym p))
     go (inr (inr p)) = part-put-after (m .array) (72 * c .number) (c .bytes) (omega (arith, within)) (72 * n) 72 (omega (arith, w .1 .size))

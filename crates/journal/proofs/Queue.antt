@@ -29,7 +29,12 @@ unfolding places queued
 whole-places s at zero h b = none
 whole-places s at (suc n) h b =
     more
-    (record { word = part-lt 8 s at b; size = length-part s (at + 8) 72 (omega arith); bytes = below-take 72 (drop (at + 8) s) (below-drop (at + 8) s b) })
+    (record {
+      word = part-lt 8 s at b;
+      size = length-part s (at + 8) 72 (omega arith);
+      bytes = below-take 72 (drop (at + 8) s)
+          (below-drop (at + 8) s b);
+    })
     (whole-places s (at + 80) n (omega arith) b)
 
 -- ---- cells laid into places
@@ -65,7 +70,8 @@ places-laid (more {x = c} {xs = cs} w ws) =
     ap₂ {C = List Cell} (λ (x : ℕ) (b : List ℕ). record { number = x; bytes = b } ∷ places (placed c ++ laid cs) 80 (length cs))
     (ap fromLe number ∙ number-exact 256 8 (c .number) (lit< tt) (w .word)) cell
     ∙ ap (λ (l : List Cell). c ∷ l)
-    (same-places (placed c ++ laid cs) (laid cs) 80 0 (length cs) (ap (take (80 * length cs)) (drop-at (placed c) (laid cs) 80 (length-placed w)))
+    (same-places (placed c ++ laid cs) (laid cs) 80 0 (length cs)
+    (ap (take (80 * length cs)) (drop-at (placed c) (laid cs) 80 (length-placed w)))
     ∙ places-laid ws)
 
 -- the cells of places lie as the places do

@@ -18,11 +18,14 @@ use Rattle.control.specs.Control.{Cell, controlLength, placeAt, queued, places,
 use Rattle.control.proofs.Laws.{in-map-take, places-snoc, length-places, take-places}
 use Rattle.batch.specs.Batch.{staged, stagedFrom}
 use Rattle.batch.proofs.Laws.{staged-past}
-use Rattle.journal.specs.Journal.{Store, Media, media, store, storeAll, stages, finish, committing, batchStores, pendingStores, made, Stored}
+use Rattle.journal.specs.Journal.{Store, Media, media, store, storeAll, stages, finish, committing, batchStores, pendingStores, made}
+use Rattle.journal.specs.Journal.{Stored}
 use Rattle.journal.specs.Journal.Store.{cell, root, clear}
 use Rattle.journal.proofs.Each.{Each}
-use Rattle.journal.proofs.Laws.{length-stages, length-finish, length-batch, pending-some, pending-none, take-stages, finish-cells, finish-root, batch-stages, batch-finish, store-append}
-use Rattle.journal.proofs.Queue.{Whole, whole-places, placed, laid-places, laid-queue, stages-put, committed, committed-count, committed-queue, committed-pending}
+use Rattle.journal.proofs.Laws.{length-stages, length-finish, length-batch, pending-some, pending-none, take-stages, finish-cells}
+use Rattle.journal.proofs.Laws.{finish-root, batch-stages, batch-finish, store-append}
+use Rattle.journal.proofs.Queue.{Whole, whole-places, placed, laid-places, laid-queue, stages-put, committed, committed-count}
+use Rattle.journal.proofs.Queue.{committed-queue, committed-pending}
 
 -- no cell of the queue
 pub no-cell : (m : Media) (k : List ℕ) (at : ℕ) → m ≡ storeAll m (map cell (places k at 0))
@@ -101,9 +104,11 @@ module _ (k : List ℕ) (m : Media) (a n : ℕ) (counted : n ≡ count k) where
       short : a ≡ n + 1 → Stored a (pendingStores k) m (media b k₁) a
       short e =
           made-as
-          (ap₂ (λ (i : ℕ) (xs : List Store). take i xs) (e ∙ ap (λ (i : ℕ). i + 1) (sym size)) all ∙ finish-root (places k 24 n) (newRoot k))
+          (ap₂ (λ (i : ℕ) (xs : List Store). take i xs) (e ∙ ap (λ (i : ℕ). i + 1) (sym size)) all
+          ∙ finish-root (places k 24 n) (newRoot k))
           with-root
-          (e ∙ sym (length-append (map cell (places k 24 n)) (root (newRoot k) ∷ []) ∙ ap (λ (i : ℕ). i + 1) (length-map (places k 24 n) cell ∙ size)))
+          (e ∙ sym (length-append (map cell (places k 24 n)) (root (newRoot k) ∷ [])
+          ∙ ap (λ (i : ℕ). i + 1) (length-map (places k 24 n) cell ∙ size)))
 
       cleared : (a ≡ n + 1 → ⊥) → 15 < length k₁ → Stored a (pendingStores k) m (media b (set k₁ 15 0)) (n + 2)
       unfolding store storeAll finish
@@ -161,7 +166,8 @@ module _ (x k : List ℕ) (n r a : ℕ) where
     as-laid =
         g
         ∙ ap₂ {C = List ℕ} (λ (l : List ℕ) (i : ℕ). put l 15 (i ∷ toLe 8 r))
-        (sym (ap (put k (placeAt 0)) (laid-places k (placeAt 0) n (omega arith) bytes) ∙ put-part k (placeAt 0) (80 * n) (omega arith))) (sym many)
+        (sym (ap (put k (placeAt 0)) (laid-places k (placeAt 0) n (omega arith) bytes) ∙ put-part k (placeAt 0) (80 * n) (omega arith)))
+        (sym many)
 
     pending : pendingStores k₂ ≡ finish cells r
     pending = ap pendingStores as-laid ∙ committed-pending k cells r size (rw many few) whole (rw many some) word
@@ -179,10 +185,16 @@ module _ (x k : List ℕ) (n r a : ℕ) where
         record {
           left =
               s .left
-              ∙ ap₂ {C = Media} (λ (l : List ℕ) (xs : List Store). storeAll (media x l) (made (a - n - 1) xs)) (g ∙ ap (λ (i : ℕ). put k 15 (i ∷ toLe 8 r)) (sym many)) pending
+              ∙ ap₂ {C = Media} (λ (l : List ℕ) (xs : List Store). storeAll (media x l) (made (a - n - 1) xs))
+              (g ∙ ap (λ (i : ℕ). put k 15 (i ∷ toLe 8 r)) (sym many)) pending
               ∙ ap (λ (i : ℕ). storeAll (media x k) (made i (committing cells r))) next;
           number =
-              omega (arith, s .number, ap (λ (xs : List Store). length (made (a - n - 1) xs)) pending, ap (λ (i : ℕ). length (made i (committing cells r))) next);
+              omega (
+                arith,
+                s .number,
+                ap (λ (xs : List Store). length (made (a - n - 1) xs)) pending,
+                ap (λ (i : ℕ). length (made i (committing cells r))) next,
+              );
         }
 
     pub run-commit : Committed x k n r a k₂
@@ -218,7 +230,8 @@ staged-stores x a n (c ∷ cs) k = go (staged-stores x a (suc n) cs (staged a n 
         e ∙ ap (λ (i : ℕ). storeAll (media x (staged a n c k)) (made i (stages (suc n) cs))) none
         ∙ ap (media x) (sym (staged-past k n a c h)) ∙ ap (λ (i : ℕ). storeAll (media x k) (made i (stages n (c ∷ cs)))) same
 
-module _ (x k : List ℕ) (cs : List Cell) (r a : ℕ) (size : length k ≡ controlLength) (some : 1 ≤ length cs) (few : length cs ≤ 8) (ws : Each Whole cs) where
+module _ (x k : List ℕ) (cs : List Cell) (r a : ℕ) (size : length k ≡ controlLength) (some : 1 ≤ length cs) (few : length cs ≤ 8)
+    (ws : Each Whole cs) where
   abbrev now : List ℕ
   now = stagedFrom a 0 cs k
 
@@ -253,7 +266,8 @@ module _ (x k : List ℕ) (cs : List Cell) (r a : ℕ) (size : length k ≡ cont
                 ∙ ap (λ (i : ℕ). storeAll (media x now) (made i (committing cs r))) next
                 ∙ ap (λ (m : Media). storeAll m (made (suc (a - length cs - 1)) (committing cs r))) (staged-all h)
                 ∙ sym (store-append (media x k) (stages 0 cs) (made (suc (a - length cs - 1)) (committing cs r)))
-                ∙ sym (ap (storeAll (media x k)) (ap (λ (i : ℕ). made i (batchStores cs r)) (sym past) ∙ batch-finish (a - length cs - 1) cs r some));
+                ∙ sym (ap (storeAll (media x k))
+                (ap (λ (i : ℕ). made i (batchStores cs r)) (sym past) ∙ batch-finish (a - length cs - 1) cs r some));
             number =
                 omega (
                   arith,

@@ -2,7 +2,8 @@
 use mathlib.Core.Path.{_≡_, refl, sym, ap, ap₂, _∙_, subst}
 use mathlib.Core.Logic.{_⊎_, inl, inr}
 use Prim.Native.Nat.{ℕ, zero, suc, _+_, _-_, _*_, _/_, _%_, _^_, _<_, _≤_, suc-le-suc, zero-le}
-use native.Mathlib.Nat.{div-one, div-div-eq-div-mul, div-eq-of-lt, pow-suc, div-le-self, div-lt-iff-lt-mul, sub-add-cancel, le-refl, add-left-cancel, pow-succ'}
+use native.Mathlib.Nat.{div-one, div-div-eq-div-mul, div-eq-of-lt, pow-suc, div-le-self, div-lt-iff-lt-mul, sub-add-cancel, le-refl}
+use native.Mathlib.Nat.{add-left-cancel, pow-succ'}
 use native.Mathlib.Decide.{le-ind}
 use native.Mathlib.Numerals.{add-one}
 use native.Mathlib.Omega.{arith}
@@ -10,7 +11,8 @@ use lib.Dec.{lit<}
 use lib.Pow.{pow-add}
 use Rattle.words.proofs.Digits.{pow-pos, pow-mul}
 use Rattle.words.proofs.Order.{lt-eq-gt}
-use Rattle.memory_map.specs.Map.{pages, lines, nodes, pageOf, onPath, levelStart, slots, shadowStart, shadowCells, cells, Item, cellOf, InMap}
+use Rattle.memory_map.specs.Map.{pages, lines, nodes, pageOf, onPath, levelStart, slots, shadowStart, shadowCells, cells, Item}
+use Rattle.memory_map.specs.Map.{cellOf, InMap}
 use Rattle.memory_map.specs.Map.Item.{line, node, shadow}
 
 -- what holds at 0, 1, 2 and 3 holds up to 3
@@ -142,7 +144,8 @@ start-small {r} {h} {l} e p q = omega (arith, level-mono h l (suc h) (omega arit
 
 pub nodes-small : {r h : ℕ} (l : ℕ) → r ≡ nodes h l → h ≤ 3 → r ≤ 512
 unfolding nodes
-nodes-small {r} {h} l e p = omega (arith, upTo3 (λ n. 8 ^ n ≤ 512) (omega arith) (omega arith) (omega arith) (omega arith) (h - l) (omega arith))
+nodes-small {r} {h} l e p =
+    omega (arith, upTo3 (λ n. 8 ^ n ≤ 512) (omega arith) (omega arith) (omega arith) (omega arith) (h - l) (omega arith))
 
 pub slots-small : {r h : ℕ} → r ≡ slots h → h ≤ 3 → r ≤ 10
 unfolding slots

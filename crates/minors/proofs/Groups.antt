@@ -8,7 +8,8 @@ use lib.Dec.{lit<, lit≤}
 use lib.ListN.{length, take, drop}
 use lib.Seq.{take-all, drop-drop}
 use Rattle.words.specs.Bytes.{number, digits, fromLe, toLe, part, put}
-use Rattle.words.proofs.Digits.{Below, below-take, below-drop, below-digits, length-digits, number-append, number-drop, number-take, number-exact, number-lt-exact, digits-cut, digits-append, digits-exact, pow-mul}
+use Rattle.words.proofs.Digits.{Below, below-take, below-drop, below-digits, length-digits, number-append, number-drop, number-take}
+use Rattle.words.proofs.Digits.{number-exact, number-lt-exact, digits-cut, digits-append, digits-exact, pow-mul}
 use Rattle.words.proofs.Parts.{length-part, drop-take, part-digits, number-parts, copy-more}
 use Rattle.words.proofs.Puts.{put-put, copy-over}
 use Rattle.words.proofs.Words.{part-lt}

@@ -71,5 +71,6 @@ slot-put c s o d b h l =
     let at = 73 * s in
     let w = length-digits 256 8 o in
     ap₂ {C = List ℕ} (λ (x y : List ℕ). put x (at + 9) y)
-    (sym (put-one (put c at (toLe 8 o)) (at + 8) d (rw (length-put c at (toLe 8 o) (omega arith)) (omega arith)))) (take-all 64 b (omega arith))
+    (sym (put-one (put c at (toLe 8 o)) (at + 8) d (rw (length-put c at (toLe 8 o) (omega arith)) (omega arith))))
+    (take-all 64 b (omega arith))
     ∙ put-three c at (toLe 8 o) (d ∷ []) b (at + 8) (at + 9) (omega arith) (omega arith) (omega arith)

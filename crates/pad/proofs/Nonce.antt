@@ -34,7 +34,8 @@ nonce major minor hj hn =
     (words-toLe 4 0 high [] ∙ ap (λ (x : ℕ). x ∷ []) (mod-eq-of-lt (omega arith))))
 
 pub pad-is : (keys : List ℕ) (line major minor : ℕ) → major < 2 ^ 64 → minor < 2 ^ 32
-    → serialised (constants ++ (wordsOf 4 8 keys ++ (line ∷ minor ∷ major % 0x1_0000_0000 ∷ major / 0x1_0000_0000 ∷ []))) ≡ pad keys line major minor
+    → serialised (constants ++ (wordsOf 4 8 keys ++ (line ∷ minor ∷ major % 0x1_0000_0000 ∷ major / 0x1_0000_0000 ∷ [])))
+    ≡ pad keys line major minor
 unfolding start block pad
 pad-is keys line major minor hj hn =
     sym

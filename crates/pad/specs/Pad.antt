@@ -6,7 +6,8 @@ use lib.Bits.{bitXor}
 use Rattle.words.specs.Bytes.{toLe}
 use Rattle.chacha20.specs.ChaCha20.{block}
 
--- the ChaCha20 block under key bytes 0 to 31 whose block counter is the line number and whose nonce is the minor, 4 bytes, then the major, 8 bytes
+-- the ChaCha20 block under key bytes 0 to 31 whose block counter is the line number and whose nonce is the minor, 4 bytes,
+-- then the major, 8 bytes
 unfoldable pub pad : List ℕ → ℕ → ℕ → ℕ → List ℕ
 pad keys line major minor = block (take 32 keys) line (toLe 4 minor ++ toLe 8 major)
 

@@ -61,7 +61,8 @@ module _ (h : ℕ) (keys a c : List ℕ) (r p : ℕ) where
     top = omega arith
 
     next-wrong : (u v : Bool) → holds c (n - 1) (onPath p (n - 1)) ≡ u → rightTag h keys a c r p (n - 1) ≡ v
-        → firstWrong h keys a c r p (suc h) ≡ cond u (firstWrong h keys a c r p (n - 1)) (cond v (firstWrong h keys a c r p (n - 1)) (some (n - 1)))
+        → firstWrong h keys a c r p (suc h) ≡ cond u (firstWrong h keys a c r p (n - 1))
+        (cond v (firstWrong h keys a c r p (n - 1)) (some (n - 1)))
     unfolding firstWrong
     next-wrong u v e f = w .found ∙ ap (firstWrong h keys a c r p) (sym top) ∙ rw (e, f)
 
@@ -78,7 +79,8 @@ module _ (h : ℕ) (keys a c : List ℕ) (r p : ℕ) where
           few = omega (arith, w .few);
         }
 
-    pub walking-loaded : holds c (n - 1) (onPath p (n - 1)) ≡ false → rightTag h keys a c r p (n - 1) ≡ true → Walking h keys a c r p (k + 1) (n - 1)
+    pub walking-loaded : holds c (n - 1) (onPath p (n - 1)) ≡ false → rightTag h keys a c r p (n - 1) ≡ true
+        → Walking h keys a c r p (k + 1) (n - 1)
     walking-loaded e f =
         record {
           levels = omega (arith, w .levels);
@@ -97,7 +99,8 @@ module _ (h : ℕ) (keys a c : List ℕ) (r p : ℕ) where
       (w .found ∙ ap (firstWrong h keys a c r p) e, sym (w .count ∙ ap (λ (j : ℕ). k + missing c p j) e ∙ omega arith))
 
 -- what is told of the path, and what that says
-module _ (h : ℕ) (high : h ≤ 3) (keys a : List ℕ) (whole : length a ≡ arrayLength h) (r p : ℕ) (page : p < pages h) (c : List ℕ) (size : length c ≡ cacheLength h) where
+module _ (h : ℕ) (high : h ≤ 3) (keys a : List ℕ) (whole : length a ≡ arrayLength h) (r p : ℕ) (page : p < pages h) (c : List ℕ)
+    (size : length c ≡ cacheLength h) where
   abbrev found : Option ℕ → Loaded
   found o = outcome p o (withPath h a p (suc h) c) (pathCells h c p (suc h))
 
@@ -108,7 +111,8 @@ module _ (h : ℕ) (high : h ≤ 3) (keys a : List ℕ) (whole : length a ≡ ar
   unfolding told
   told-loaded k j e f = sym (ap (told k) (path-found none e) ∙ ap Path·variants.Loaded (sym f))
 
-  pub told-differs : (k j i : ℕ) → firstWrong h keys a c r p (suc h) ≡ some j → i ≡ onPath p j → Path·variants.Differs j i ≡ told k (loadPath h keys a r p c)
+  pub told-differs : (k j i : ℕ) → firstWrong h keys a c r p (suc h) ≡ some j → i ≡ onPath p j → Path·variants.Differs j i
+      ≡ told k (loadPath h keys a r p c)
   unfolding told
   told-differs k j i e f = sym (ap (told k) (path-found (some j) e) ∙ ap (Path·variants.Differs j) (sym f))
 
@@ -121,7 +125,8 @@ module _ (h : ℕ) (high : h ≤ 3) (keys a : List ℕ) (whole : length a ≡ ar
           → (j ≡ k) × (loadPath h keys a r p c ≡ loaded (withPath h a p (suc h) c) (pathCells h c p (suc h)))
       go none f = (let is : Path·variants.Loaded j ≡ Path·variants.Loaded k = e ∙ ap (told k) (path-found none f) in cc, path-found none f)
       go (some l) f =
-          absurd (let is : Path·variants.Loaded j ≡ Path·variants.Differs l (onPath p l) = e ∙ ap (told k) (path-found (some l) f) in let z : _≡_ {A = ℕ} 0 1 = cc in omega arith)
+          absurd (let is : Path·variants.Loaded j ≡ Path·variants.Differs l (onPath p l) = e
+          ∙ ap (told k) (path-found (some l) f) in let z : _≡_ {A = ℕ} 0 1 = cc in omega arith)
 
   pub differs-told : (k j i : ℕ) → Path·variants.Differs j i ≡ told k (loadPath h keys a r p c) → loadPath h keys a r p c ≡ differs j i
   unfolding told
@@ -129,7 +134,8 @@ module _ (h : ℕ) (high : h ≤ 3) (keys a : List ℕ) (whole : length a ≡ ar
     where
       go : (o : Option ℕ) → firstWrong h keys a c r p (suc h) ≡ o → loadPath h keys a r p c ≡ differs j i
       go none f =
-          absurd (let is : Path·variants.Differs j i ≡ Path·variants.Loaded k = e ∙ ap (told k) (path-found none f) in let z : _≡_ {A = ℕ} 0 1 = cc in omega arith)
+          absurd (let is : Path·variants.Differs j i ≡ Path·variants.Loaded k = e
+          ∙ ap (told k) (path-found none f) in let z : _≡_ {A = ℕ} 0 1 = cc in omega arith)
       go (some l) f =
           let is : Path·variants.Differs j i ≡ Path·variants.Differs l (onPath p l) = e ∙ ap (told k) (path-found (some l) f) in
           path-found (some l) f ∙ ap₂ {C = Loaded} differs (let one : l ≡ j = cc in one) (let two : onPath p l ≡ i = cc in two)
@@ -184,7 +190,8 @@ module _ (h : ℕ) (c : List ℕ) (l i : ℕ) (lacks : holds c l i ≡ false) wh
     gathered-dirty e middle after o x y b f q u v g k =
         let is = node-dirty (ap (dirty c) (sym slot) ∙ e) in
         let first : cellWith x b 0 ≡ nodeCell h l (owner c (slotOf l i) - 1) (content c (slotOf l i)) =
-        cell-is x (o - 1) b u ∙ ap₂ {C = Cell} (λ (j : ℕ) (z : List ℕ). nodeCell h l (j - 1) z) (f ∙ ap (owner c) slot) (q ∙ ap (content c) slot) in
+        cell-is x (o - 1) b u ∙ ap₂ {C = Cell} (λ (j : ℕ) (z : List ℕ). nodeCell h l (j - 1) z) (f ∙ ap (owner c) slot)
+        (q ∙ ap (content c) slot) in
         record {
           cells =
               k ∙ ap (λ (t : ℕ). staged allowance t (shadowFor y (i + 1)) middle) (add-one n)
@@ -218,7 +225,8 @@ module _ (h : ℕ) (c : List ℕ) (p allowance : ℕ) (before : List ℕ) where
     unfolding pathCells
     next-cells = ap (λ (j : ℕ). stagedFrom allowance m (pathCells h c p j) now) one-more ∙ g .cells
 
-    next-number : m + length (nodeCells h c (n - 1) (onPath p (n - 1))) + length (pathCells h c p (n - 1)) ≡ length (pathCells h c p (suc h))
+    next-number : m + length (nodeCells h c (n - 1) (onPath p (n - 1))) + length (pathCells h c p (n - 1))
+        ≡ length (pathCells h c p (suc h))
     unfolding pathCells
     next-number =
         omega (
@@ -281,7 +289,8 @@ module _ (h : ℕ) (a : List ℕ) (p : ℕ) (c₀ : List ℕ) where
     loading-held e = record { levels = omega (arith, w .levels); slots = rw e at next-slots; size = w .size }
 
     pub loading-more : holds c (n - 1) (onPath p (n - 1)) ≡ false → (after : List ℕ) (i s x : ℕ) (b : List ℕ) → i ≡ onPath p (n - 1)
-        → s ≡ slotOf (n - 1) i → x ≡ cellOf h (node (n - 1) i) → b ≡ cellContent a x → after ≡ withSlot c s (i + 1) 0 b → length after ≡ length c
+        → s ≡ slotOf (n - 1) i → x ≡ cellOf h (node (n - 1) i) → b ≡ cellContent a x → after ≡ withSlot c s (i + 1) 0 b → length after
+        ≡ length c
         → Loading h a p c₀ after (n - 1)
     unfolding withNode
     loading-more e after i s x b f g q u v z =

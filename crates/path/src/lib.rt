@@ -47,7 +47,8 @@ fn genuine<'a>(
     l: usize,
 ) -> bool
     requires { ⌜ (length (now keys) ≡ 48) × (Sized h (now array) (now cache) × ((p < pages h) × (l ≤ h))) ⌝ }
-    ensures { λ r. ⌜ r ≡ eqb (nodeTag (now (keys .entry)) (cellContent (now (array .entry)) (cellOf h (node l (onPath p l)))) l (onPath p l))
+    ensures { λ r. ⌜ r ≡ eqb (nodeTag (now (keys .entry)) (cellContent (now (array .entry)) (cellOf h (node l (onPath p l)))) l
+        (onPath p l))
         (expectedTag h (now (array .entry)) (now (cache .entry)) root p l) ⌝ }
 {
     let i = on_path(p, l);

@@ -54,7 +54,8 @@ left-more s i h k =
 
 -- the hash of a message whose whole words and last word were compressed in turn
 pub hash-last : (key m : List ℕ)
-    → finalize (compress (compressAll (initial (fromLe (part key 0 8)) (fromLe (part key 8 8))) (wordsOf 8 (length m / 8) m)) (lastWord m)) ≡ sipHash key m
+    → finalize (compress (compressAll (initial (fromLe (part key 0 8)) (fromLe (part key 8 8))) (wordsOf 8 (length m / 8) m)) (lastWord m))
+    ≡ sipHash key m
 unfolding sipHash messageWords compressAll
 hash-last key m = ap finalize (sym (compress-append _ (wordsOf 8 (length m / 8) m) (lastWord m ∷ [])))
 
@@ -76,7 +77,8 @@ module _ (n : ℕ) (content xs : List ℕ) (hc : length content ≡ n * 8) where
   words : Below (2 ^ 64) xs → wordsOf 8 (length (content ++ bytesOf 8 xs) / 8) (content ++ bytesOf 8 xs) ≡ wordsOf 8 n content ++ xs
   words hx =
       ap (λ (k : ℕ). wordsOf 8 k (content ++ bytesOf 8 xs)) whole ∙ words-add 8 n (length xs) (content ++ bytesOf 8 xs)
-      ∙ ap₂ (λ (a b : List ℕ). a ++ wordsOf 8 (length xs) b) (words-front 8 n content (bytesOf 8 xs) (omega arith)) (drop-at content (bytesOf 8 xs) (n * 8) hc)
+      ∙ ap₂ (λ (a b : List ℕ). a ++ wordsOf 8 (length xs) b) (words-front 8 n content (bytesOf 8 xs) (omega arith))
+      (drop-at content (bytesOf 8 xs) (n * 8) hc)
       ∙ ap (λ (r : List ℕ). wordsOf 8 n content ++ r) (words-bytes 8 xs hx)
 
   pub message-numbers : Below (2 ^ 64) xs

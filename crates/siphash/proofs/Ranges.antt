@@ -29,7 +29,8 @@ round-below v h =
     let v3 = xor-lt 64 _ _ (rotl-lt 64 16 _ (lit≤ tt) (h .at 3)) v2 in
     let w2 = add-lt _ _ in
     let w0 = add-lt _ _ in
-    four _ _ _ _ w0 (xor-lt 64 _ _ (rotl-lt 64 17 _ (lit≤ tt) v1) w2) (rotl-lt 64 32 _ (lit≤ tt) w2) (xor-lt 64 _ _ (rotl-lt 64 21 _ (lit≤ tt) v3) w0)
+    four _ _ _ _ w0 (xor-lt 64 _ _ (rotl-lt 64 17 _ (lit≤ tt) v1) w2) (rotl-lt 64 32 _ (lit≤ tt) w2)
+    (xor-lt 64 _ _ (rotl-lt 64 21 _ (lit≤ tt) v3) w0)
 
 initial-below : (k0 k1 : ℕ) → k0 < 2 ^ 64 → k1 < 2 ^ 64 → Below (2 ^ 64) (initial k0 k1)
 unfolding initial
@@ -50,7 +51,8 @@ compressAll-below v (m ∷ ms) h k = compressAll-below (compress v m) ms (compre
 finalize-lt : (v : List ℕ) → Below (2 ^ 64) v → finalize v < 2 ^ 64
 unfolding finalize
 finalize-lt v h =
-    let r = round-below _ (round-below _ (round-below _ (round-below _ (four _ _ _ _ (h .at 0) (h .at 1) (xor-lt 64 _ _ (h .at 2) (lit< tt)) (h .at 3))))) in
+    let r = round-below _ (round-below _
+    (round-below _ (round-below _ (four _ _ _ _ (h .at 0) (h .at 1) (xor-lt 64 _ _ (h .at 2) (lit< tt)) (h .at 3))))) in
     xor-lt 64 _ _ (xor-lt 64 _ _ (r .at 0) (r .at 1)) (xor-lt 64 _ _ (r .at 2) (r .at 3))
 
 lastWord-lt : (m : List ℕ) → Below 256 m → lastWord m < 2 ^ 64

@@ -78,8 +78,10 @@ belongs-empty h s (suc i) e = absurd (omega arith)
 
 pub belongs-out : (h s o n : ℕ) → (o ≡ 0 → ⊥) → n ≡ nodes h (levelOf s) → n ≤ o - 1 → false ≡ belongs h s o
 belongs-out h s o n p e q =
-    sym (belongs-owner h s o (omega arith) ∙ ap (λ (b : Bool). b && eqb (slotOf (levelOf s) (o - 1)) s) (le-ltb (o - 1) (nodes h (levelOf s)) (subst (λ (k : ℕ). k ≤ o - 1) e q)))
+    sym (belongs-owner h s o (omega arith) ∙ ap (λ (b : Bool). b && eqb (slotOf (levelOf s) (o - 1)) s)
+    (le-ltb (o - 1) (nodes h (levelOf s)) (subst (λ (k : ℕ). k ≤ o - 1) e q)))
 
 pub belongs-in : (h s o n : ℕ) → (o ≡ 0 → ⊥) → n ≡ nodes h (levelOf s) → o - 1 < n → eqb (slotOf (levelOf s) (o - 1)) s ≡ belongs h s o
 belongs-in h s o n p e q =
-    sym (belongs-owner h s o (omega arith) ∙ ap (λ (b : Bool). b && eqb (slotOf (levelOf s) (o - 1)) s) (lt-ltb (o - 1) (nodes h (levelOf s)) (subst (λ (k : ℕ). o - 1 < k) e q)))
+    sym (belongs-owner h s o (omega arith) ∙ ap (λ (b : Bool). b && eqb (slotOf (levelOf s) (o - 1)) s)
+    (lt-ltb (o - 1) (nodes h (levelOf s)) (subst (λ (k : ℕ). o - 1 < k) e q)))

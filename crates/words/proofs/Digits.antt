@@ -2,7 +2,9 @@
 use mathlib.Core.Path.{_≡_, refl, sym, ap, ap₂, _∙_, subst}
 use mathlib.Core.List.{List, [], _∷_, _++_}
 use Prim.Native.Nat.{ℕ, zero, suc, _+_, _*_, _/_, _%_, _^_, _≤_, _<_}
-use native.Mathlib.Nat.{mod-one, pow-suc, pow-succ', add-comm, mul-comm, zero-add, mul-assoc, add-assoc, mul-add, div-div-eq-div-mul, mod-lt, not-suc-le-zero, le-of-suc-le-suc, zero-lt-suc, one-mul, div-one, zero-div, zero-mod, pow-zero, mul-pos, suc-add, lt-of-lt-of-le, pow-le-pow-right, mod-eq-of-lt, mul-zero, mul-suc, mul-one}
+use native.Mathlib.Nat.{mod-one, pow-suc, pow-succ', add-comm, mul-comm, zero-add, mul-assoc, add-assoc, mul-add, div-div-eq-div-mul}
+use native.Mathlib.Nat.{mod-lt, not-suc-le-zero, le-of-suc-le-suc, zero-lt-suc, one-mul, div-one, zero-div, zero-mod, pow-zero, mul-pos}
+use native.Mathlib.Nat.{suc-add, lt-of-lt-of-le, pow-le-pow-right, mod-eq-of-lt, mul-zero, mul-suc, mul-one}
 use native.Mathlib.Numerals.{add-one}
 use native.Mathlib.Omega.{arith}
 use lib.Arith.{digits-lt, digits-div, digits-mod, mod-mul}
@@ -111,7 +113,8 @@ pub digits-number : (b : ℕ) (ds : List ℕ) → Below b ds → digits b (lengt
 unfolding number digits
 digits-number b [] h = refl
 digits-number b (d ∷ ds) h =
-    ap₂ {C = List ℕ} (λ (x : ℕ) (r : ℕ). x ∷ digits b (length ds) r) (low b (number b ds) (below-head h)) (high b (number b ds) (below-head h))
+    ap₂ {C = List ℕ} (λ (x : ℕ) (r : ℕ). x ∷ digits b (length ds) r) (low b (number b ds) (below-head h))
+    (high b (number b ds) (below-head h))
     ∙ ap (λ (r : List ℕ). d ∷ r) (digits-number b ds (below-tail h))
 
 pub number-append : (b : ℕ) (xs ys : List ℕ) → number b (xs ++ ys) ≡ number b xs + b ^ length xs * number b ys
@@ -145,7 +148,8 @@ number-take b (suc n) (d ∷ ds) h =
 pub digits-cut : (b n x : ℕ) → 0 < b → digits b n (x % b ^ n) ≡ digits b n x
 digits-cut b n x hb =
     ap (digits b n) (sym (number-digits b n x hb))
-    ∙ subst (λ (k : ℕ). digits b k (number b (digits b n x)) ≡ digits b n x) (length-digits b n x) (digits-number b (digits b n x) (below-digits b n x hb))
+    ∙ subst (λ (k : ℕ). digits b k (number b (digits b n x)) ≡ digits b n x) (length-digits b n x)
+    (digits-number b (digits b n x) (below-digits b n x hb))
 
 pub digits-append : (b n m x : ℕ) → digits b (n + m) x ≡ digits b n x ++ digits b m (x / b ^ n)
 unfolding digits

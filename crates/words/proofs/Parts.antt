@@ -7,9 +7,11 @@ use native.Mathlib.Numerals.{towards-suc, add-one, add-two, add-three}
 use native.Mathlib.Omega.{arith}
 use lib.ListN.{length, take, drop, getD, set, length-take, length-drop, length-append, take-append-drop, drop-of-length-le}
 use lib.Dec.{lit<}
-use lib.Seq.{drop-cons, take-nil, take-add, take-take, drop-drop, sets, sets-eq, length-sets, length-take-le, take-all, take-at, drop-at, take-append-le, drop-append-le, drop-append-add}
+use lib.Seq.{drop-cons, take-nil, take-add, take-take, drop-drop, sets, sets-eq, length-sets, length-take-le, take-all, take-at, drop-at}
+use lib.Seq.{take-append-le, drop-append-le, drop-append-add}
 use Rattle.words.specs.Bytes.{number, digits, fromLe, toLe, part, put}
-use Rattle.words.proofs.Digits.{Below, below-append, below-take, below-drop, length-digits, number-append, number-take, number-drop, digits-cut, digits-append, digits-exact}
+use Rattle.words.proofs.Digits.{Below, below-append, below-take, below-drop, length-digits, number-append, number-take, number-drop}
+use Rattle.words.proofs.Digits.{digits-cut, digits-append, digits-exact}
 
 pub length-part : (s : List ℕ) (at n : ℕ) → at + n ≤ length s → length (part s at n) ≡ n
 length-part s at n h = simp (length-take, length-drop) (omega arith)
@@ -189,5 +191,6 @@ pub copy-word : (d : List ℕ) (to : ℕ) (s : List ℕ) (from n : ℕ) → to +
     → put (put d to (part s from n)) (to + n) (toLe 8 (fromLe (part s (from + n) 8))) ≡ put d to (part s from (n + 8))
 copy-word d to s from n hd hs b =
     ap (put (put d to (part s from n)) (to + n))
-    (digits-exact 256 8 (part s (from + n) 8) (length-part s (from + n) 8 (omega arith)) (below-take 8 (drop (from + n) s) (below-drop (from + n) s b)))
+    (digits-exact 256 8 (part s (from + n) 8) (length-part s (from + n) 8 (omega arith))
+    (below-take 8 (drop (from + n) s) (below-drop (from + n) s b)))
     ∙ copy-more d to s from n 8 hd hs

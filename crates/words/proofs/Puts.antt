@@ -119,7 +119,8 @@ pub put-comm : (s : List ℕ) (i : ℕ) (xs : List ℕ) (j : ℕ) (ys : List ℕ
     → put (put s i xs) j ys ≡ put (put s j ys) i xs
 put-comm s i xs j ys p q =
     let inside : i + length xs ≤ length (take j s) = rw (length-take-le j s (omega arith)) p in
-    ap₂ {C = List ℕ} (λ (a b : List ℕ). a ++ (ys ++ b)) (take-left s i xs j p (omega arith)) (drop-put s i xs (omega arith) (j + length ys) (omega arith))
+    ap₂ {C = List ℕ} (λ (a b : List ℕ). a ++ (ys ++ b)) (take-left s i xs j p (omega arith))
+    (drop-put s i xs (omega arith) (j + length ys) (omega arith))
     ∙ sym (put-left (take j s) (ys ++ drop (j + length ys) s) i xs inside)
 
 -- a part of a list written anew

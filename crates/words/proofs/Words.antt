@@ -9,7 +9,8 @@ use lib.ListN.{length, take, drop, getD, set, length-append, length-take, length
 use lib.Dec.{lit<}
 use lib.Seq.{take-take, drop-drop, take-append-le, drop-append-le, take-at, drop-at}
 use Rattle.words.specs.Bytes.{number, fromLe, toLe, part, put, wordsOf, bytesOf}
-use Rattle.words.proofs.Digits.{Below, below-head, below-tail, below-nil, below-cons, below-append, below-drop, below-take, below-digits, pow-pos, length-digits, number-digits, number-lt-pow}
+use Rattle.words.proofs.Digits.{Below, below-head, below-tail, below-nil, below-cons, below-append, below-drop, below-take}
+use Rattle.words.proofs.Digits.{below-digits, pow-pos, length-digits, number-digits, number-lt-pow}
 use Rattle.words.proofs.Parts.{drop-take, put-append}
 use Rattle.words.proofs.Puts.{take-put, drop-put-in}
 
@@ -47,7 +48,8 @@ words-bytes w [] h = refl
 words-bytes w (x ∷ xs) h =
     ap₂ {C = List ℕ} (λ (a b : List ℕ). fromLe a ∷ wordsOf w (length xs) b)
     (take-at (toLe w x) (bytesOf w xs) w (length-digits 256 w x)) (drop-at (toLe w x) (bytesOf w xs) w (length-digits 256 w x))
-    ∙ ap₂ {C = List ℕ} (λ (y : ℕ) (r : List ℕ). y ∷ r) (number-digits 256 w x (lit< tt) ∙ mod-eq-of-lt (below-head h)) (words-bytes w xs (below-tail h))
+    ∙ ap₂ {C = List ℕ} (λ (y : ℕ) (r : List ℕ). y ∷ r) (number-digits 256 w x (lit< tt) ∙ mod-eq-of-lt (below-head h))
+    (words-bytes w xs (below-tail h))
 
 -- the number at an index, also one that reaches past the end
 pub part-lt : {b : ℕ} (w : ℕ) (s : List ℕ) (at : ℕ) → Below b s → number b (part s at w) < b ^ w

@@ -30,24 +30,21 @@ use Rattle.journal.proofs.Steps.{Ran}
 use Rattle.calls.specs.Path.{nodeCell, renewed, renewPath, renewedRoot}
 use Rattle.calls.specs.Call.{Module, Called, buffers, ended, storing}
 use Rattle.calls.specs.Read.{sideBytes}
+use Rattle.call_laws.specs.Line.{lineCell, blockCells, lineCells}
 use Rattle.call_laws.specs.Walk.{pathCells, withPath}
 use Rattle.call_laws.proofs.Loads.{Sound, sound-node, cells-sound}
 use Rattle.call_laws.proofs.Loading.{path-content, path-length}
 use Rattle.call_laws.proofs.Apart.{Other, node-avoids, stored-length, content-kept}
-use Rattle.call_laws.proofs.Staged.{Staged, staged-run}
-use Rattle.call_laws.proofs.Storing.{storing-cut, storing-done, all-told}
+use Rattle.call_laws.proofs.Line.{Lent, all-length, all-sound, block-few}
+use Rattle.call_laws.proofs.Staged.{Staged, stored, staged-cut, staged-done}
 use Rattle.path.proofs.Ready.{Ready, fit, few}
-use Rattle.write.specs.Parts.{lineCell, blockCells, lineCells, renewedTag, renewedBy}
-use Rattle.write.proofs.Laws.{line-cell-length}
+use Rattle.write.specs.Parts.{renewedTag, renewedBy}
 use Rattle.write.proofs.Held.{path-owners, path-over, renewed-over}
 
 pub cells-length : (h : ℕ) (keys c : List ℕ) (n : ℕ) (text : List ℕ) (ma mi : ℕ) (b : List ℕ)
     → length (lineCells h keys c n text ma mi b) ≡ length (pathCells h c (pageOf n) (suc h)) + length (blockCells h (pageOf n) mi b) + 1
 unfolding lineCells
-cells-length h keys c n text ma mi b =
-    let x = pathCells h c (pageOf n) (suc h) in
-    let y = blockCells h (pageOf n) mi b in
-    length-append (x ++ y) (lineCell keys n text ma mi ∷ []) ∙ ap (λ (m : ℕ). m + 1) (length-append x y)
+cells-length h keys c n text ma mi b = all-length h keys n text ma mi b (pathCells h c (pageOf n) (suc h))
 
 -- what is staged step by step: the path, the block, the data cell
 module _ (h : ℕ) (keys c : List ℕ) (n : ℕ) (text : List ℕ) (ma mi : ℕ) (b : List ℕ) (allowance : ℕ) (p : ℕ) (page : p ≡ pageOf n) where
@@ -74,15 +71,8 @@ module _ (h : ℕ) (keys c : List ℕ) (n : ℕ) (text : List ℕ) (ma mi : ℕ)
         omega (arith, length-append (x ++ y) (z ∷ [])),
       )
 
--- a line of the map, its text and the counter block to be
-pub record Lent (h n : ℕ) (text b : List ℕ) : Type 0 where
-  pub inside : n < lines h
-  pub full : length text ≡ 64
-  pub text-bytes : Below 256 text
-  pub wide : length b ≡ 64
-  pub block-bytes : Below 256 b
-
-module _ {h : ℕ} {a k c : List ℕ} {n : ℕ} (y : Ready h a k c (pageOf n)) (keys : List ℕ) {text b : List ℕ} (v : Lent h n text b) (ma mi : ℕ) where
+module _ {h : ℕ} {a k c : List ℕ} {n : ℕ} (y : Ready h a k c (pageOf n)) (keys : List ℕ) {text b : List ℕ} (v : Lent h n text b)
+    (ma mi : ℕ) where
   abbrev p : ℕ
   p = pageOf n
 
@@ -91,36 +81,28 @@ module _ {h : ℕ} {a k c : List ℕ} {n : ℕ} (y : Ready h a k c (pageOf n)) (
 
   -- ---- its cells are sound, and at most eight
 
-  data-sound : Sound h (lineCell keys n text ma mi)
-  unfolding lineCell InMap cellOf
-  data-sound =
-      let x = xorBytes text (pad keys n ma mi) in
-      record {
-        inside = cell-within h (line n) (v .inside);
-        size = line-cell-length keys n text ma mi (v .full);
-        bytes =
-            below-append x (sideBytes keys x n ma mi) (below-xor text (pad keys n ma mi) (v .text-bytes) (below-pad keys n ma mi))
-            (below-cons (omega arith) (below-digits 256 7 _ (lit< tt)));
-      }
-
-  block-sound : (t : Bool) → Each (Sound h) (cond t (nodeCell h 0 p b ∷ []) [])
-  block-sound true = more (sound-node h 0 p b (page-node h n (v .inside)) (v .wide) (v .block-bytes)) none
-  block-sound false = none
-
-  block-few : (t : Bool) → length (cond t (nodeCell h 0 p b ∷ []) []) ≤ 1
-  block-few true = le-refl 1
-  block-few false = zero-le
-
   batch-sound : Each (Sound h) cs
-  unfolding lineCells blockCells
+  unfolding lineCells
   batch-sound =
-      each-append (each-append (cells-sound h c (fit y) p (y .page) (suc h) (le-refl (suc h))) (block-sound (eqb (phaseOf mi) 0))) (more data-sound none)
+      all-sound h keys n text ma mi b (pathCells h c p (suc h)) v (cells-sound h c (fit y) p (y .page) (suc h) (le-refl (suc h)))
 
   pub batch-length : (1 ≤ length cs) × (length cs ≤ 8)
-  unfolding blockCells
   batch-length =
       let all = cells-length h keys c n text ma mi b in
-      (omega (arith, all), omega (arith, all, few y, y .sized .flat, block-few (eqb (phaseOf mi) 0)))
+      (omega (arith, all), omega (arith, all, few y, y .sized .flat, block-few h p mi b))
+
+  pub staging : {allowance : ℕ} {k₁ : List ℕ} {m : ℕ} → k₁ ≡ stagedFrom allowance 0 cs k → m ≡ length cs → Staged h allowance a k cs k₁ m
+  staging held number =
+      record {
+        flat = y .sized .flat;
+        array = y .sized .array;
+        control = y .control;
+        sound = batch-sound;
+        some = batch-length .0;
+        few = batch-length .1;
+        cells = held;
+        number = number;
+      }
 
   -- ---- none of them is a node above the block that the path loads
 
@@ -171,57 +153,38 @@ module _ {h : ℕ} {a k c : List ℕ} {n : ℕ} (y : Ready h a k c (pageOf n)) (
         (put (content d (slotOf (suc l) (onPath p (suc l)))) (8 * (onPath p l % 8)) (toLe 8 t)))
         (renewed-path f l (omega arith)) (known l (omega arith) ∙ tag-renewed l (omega arith))
 
-    -- ---- staged, and run
+    -- ---- run
 
-    module _ (allowance : ℕ) (k₁ : List ℕ) (m : ℕ) (held : k₁ ≡ stagedFrom allowance 0 cs k) (number : m ≡ length cs) where
-      pub staging : Staged h allowance a k cs k₁ m
-      staging =
-          record {
-            flat = y .sized .flat;
-            array = y .sized .array;
-            control = y .control;
-            sound = batch-sound;
-            some = batch-length .0;
-            few = batch-length .1;
-            cells = held;
-            number = number;
-          }
-
+    module _ {allowance : ℕ} {k₁ : List ℕ} {m : ℕ} (s : Staged h allowance a k cs k₁ m) where
       abbrev xs : List Store
       xs = batchStores cs (renewedRoot h keys d p b)
 
       abbrev called : ℕ → Called
       called f = storing allowance (buffers a k c) xs (Done (length xs) 0) (renewPath keys d p b f h)
 
-      module _ (r : ℕ) (top : r ≡ getD tags h 0) (a' k' : List ℕ) (told : ℕ) (ran : Ran a k₁ m r allowance (media a' k') told) where
-        made : Stored allowance xs (media a k) (media a' k') told
-        made =
-            subst (λ (z : ℕ). Stored allowance (batchStores cs z) (media a k) (media a' k') told) (top ∙ root-renewed)
-            (staged-run staging r (media a' k') told ran)
-
-        many : length xs ≡ 2 * m + 3
-        many = length-batch cs (renewedRoot h keys d p b) (batch-length .0) ∙ ap (λ (i : ℕ). 2 * i + 3) (sym number)
-
+      module _ {r : ℕ} (top : r ≡ getD tags h 0) {a' k' : List ℕ} {told : ℕ} (ran : Ran a k₁ m r allowance (media a' k') told) where
         pub write-cut : (f : ℕ) → told < 2 * m + 3 → ended (Cut told) a' k' c ≡ called f
-        write-cut f q = storing-cut allowance (buffers a k c) xs (Done (length xs) 0) (renewPath keys d p b f h) a' k' told made (omega (arith, many))
+        write-cut f q = staged-cut s (top ∙ root-renewed) ran c (renewPath keys d p b f h) q
 
         abbrev d' : List ℕ
         d' = withPath h a' p (suc h) c
 
         array-is : a' ≡ storeAll (media a k) (takes allowance xs) .array
-        array-is = ap (λ (x : Media). x .array) (made .left)
+        array-is = ap (λ (x : Media). x .array) (stored s (top ∙ root-renewed) ran .left)
 
         pub whole' : length a' ≡ length a
         whole' =
             ap length array-is
-            ∙ stored-length h (y .sized .flat) a k (y .sized .array) (y .control) (y .array-bytes) (y .control-bytes) cs batch-sound (batch-length .1) allowance
+            ∙ stored-length h (y .sized .flat) a k (y .sized .array) (y .control) (y .array-bytes) (y .control-bytes) cs batch-sound
+            (batch-length .1) allowance
             (renewedRoot h keys d p b)
 
         kept : (l : ℕ) → 1 ≤ l → l ≤ h → holds c l (onPath p l) ≡ false
             → cellContent a' (cellOf h (node l (onPath p l))) ≡ cellContent a (cellOf h (node l (onPath p l)))
         kept l q lh e =
             ap (λ (x : List ℕ). cellContent x (cellOf h (node l (onPath p l)))) array-is
-            ∙ content-kept h (y .sized .flat) a k (y .sized .array) (y .control) (y .array-bytes) (y .control-bytes) cs batch-sound (batch-length .1) allowance
+            ∙ content-kept h (y .sized .flat) a k (y .sized .array) (y .control) (y .array-bytes) (y .control-bytes) cs batch-sound
+            (batch-length .1) allowance
             (renewedRoot h keys d p b) (node l (onPath p l)) (batch-other l q lh e)
 
         -- loaded from the array after the stores, and renewed
@@ -230,11 +193,12 @@ module _ {h : ℕ} {a k c : List ℕ} {n : ℕ} (y : Ready h a k c (pageOf n)) (
             renewed-over h (y .sized .flat) p (y .page) b (v .wide) f tags d' d
             (path-length h (y .sized .flat) keys a' (whole' ∙ y .sized .array) 0 p (y .page) c (y .sized .cache))
             (path-length h (y .sized .flat) keys a (y .sized .array) 0 p (y .page) c (y .sized .cache))
-            (path-over h (y .sized .flat) p (y .page) b (v .wide) f a a' c (y .sized .array) (whole' ∙ y .sized .array) kept (y .sized .cache)) h (le-refl h)
+            (path-over h (y .sized .flat) p (y .page) b (v .wide) f a a' c (y .sized .array) (whole' ∙ y .sized .array) kept
+            (y .sized .cache)) h (le-refl h)
             ∙ renewed-path f h (le-refl h)
 
-        pub write-done : (f : ℕ) → 2 * m + 3 ≤ told → (c' : List ℕ) → c' ≡ renewedBy d' p b f tags h → ended (Done told 0) a' k' c' ≡ called f
+        pub write-done : (f : ℕ) → 2 * m + 3 ≤ told → (c' : List ℕ) → c' ≡ renewedBy d' p b f tags h → ended (Done told 0) a' k' c'
+            ≡ called f
         write-done f q c' e =
-            let all = all-told allowance (buffers a k c) xs (Done (length xs) 0) (renewPath keys d p b f h) a' k' told made (omega (arith, many)) in
-            ap₂ {C = Called} (λ (i : ℕ) (l : List ℕ). ended (Done i 0) a' k' l) all (e ∙ same-renewed f)
-            ∙ storing-done allowance (buffers a k c) xs (Done (length xs) 0) (renewPath keys d p b f h) a' k' told made (omega (arith, many))
+            ap (λ (l : List ℕ). ended (Done told 0) a' k' l) (e ∙ same-renewed f)
+            ∙ staged-done s (top ∙ root-renewed) ran c (renewPath keys d p b f h) q

@@ -86,7 +86,8 @@ module _ (h : ℕ) (high : h ≤ 3) (p : ℕ) (page : p < pages h) where
         next : List ℕ
         next = withNode h a d k (onPath p k)
 
-        one : Dec (l ≡ k) → (l < k → holds (withPath h a p k next) l (onPath p l) ≡ true) → holds (withPath h a p k next) l (onPath p l) ≡ true
+        one : Dec (l ≡ k) → (l < k → holds (withPath h a p k next) l (onPath p l) ≡ true) → holds (withPath h a p k next) l (onPath p l)
+            ≡ true
         one (yes z) ih =
             ap (λ (j : ℕ). holds (withPath h a p k next) j (onPath p j)) z
             ∙ path-keeps k next (omega arith) (node-size a whole k (omega arith) d e) k (onPath p k) (le-refl k)

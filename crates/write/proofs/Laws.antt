@@ -18,8 +18,6 @@ use Rattle.memory_map.specs.Map.{onPath, cellOf}
 use Rattle.memory_map.specs.Map.Item.{node}
 use Rattle.memory_map.proofs.Laws.{path-bottom}
 use Rattle.pad.specs.Pad.{pad, xorBytes}
-use Rattle.pad.proofs.Nonce.{length-pad}
-use Rattle.pad.proofs.Xor.{length-xor}
 use Rattle.tag.specs.Tag.{nodeTag, dataTag}
 use Rattle.tag.proofs.Tags.{dataTag-lt}
 use Rattle.control.specs.Control.{Cell, controlLength, placeAt}
@@ -28,7 +26,9 @@ use Rattle.batch.proofs.Laws.{staged-none, staged-one}
 use Rattle.cache.specs.Cache.{current}
 use Rattle.calls.specs.Path.{nodeCell}
 use Rattle.calls.specs.Read.{sideBytes}
-use Rattle.write.specs.Parts.{lineCell, blockCells, renewedTag}
+use Rattle.call_laws.specs.Line.{lineCell, blockCells}
+use Rattle.call_laws.proofs.Line.{sealed-length}
+use Rattle.write.specs.Parts.{renewedTag}
 
 -- ---- the tags of the path
 
@@ -49,22 +49,34 @@ module _ (h : ℕ) (high : h ≤ 3) (keys a c : List ℕ) (p : ℕ) (b : List �
       bottom = f ∙ ap (nodeTag keys b 0) (sym (path-bottom p))
 
       at : (k : ℕ) → k ≡ 0 → getD (set tags 0 t) k 0 ≡ renewedTag h keys a c p b k
-      at k z = subst (λ (i : ℕ). getD (set tags 0 t) i 0 ≡ renewedTag h keys a c p b i) (sym z) (getD-set-same tags 0 t 0 (omega arith) ∙ bottom)
+      at k z =
+          subst (λ (i : ℕ). getD (set tags 0 t) i 0 ≡ renewedTag h keys a c p b i) (sym z) (getD-set-same tags 0 t 0 (omega arith) ∙ bottom)
 
-  module _ {tags : List ℕ} {tag l : ℕ} (g : Tagging h keys a c p b tags tag l) (below : l < h) (child i t : ℕ) (x : List ℕ) (low : child ≡ onPath p l)
-      (up : i ≡ onPath p (l + 1)) (content : x ≡ current h a c (l + 1) i) (new : t ≡ nodeTag keys (put x (8 * (child % 8)) (toLe 8 tag)) (l + 1) i) where
+  module _ {tags : List ℕ} {tag l : ℕ} (g : Tagging h keys a c p b tags tag l) (below : l < h) (child i t : ℕ) (x : List ℕ)
+      (low : child ≡ onPath p l)
+      (up : i ≡ onPath p (l + 1)) (content : x ≡ current h a c (l + 1) i)
+      (new : t ≡ nodeTag keys (put x (8 * (child % 8)) (toLe 8 tag)) (l + 1) i) where
     next-tag : t ≡ renewedTag h keys a c p b (l + 1)
     unfolding renewedTag
     next-tag =
         new
-        ∙ ap₂ (λ (y : List ℕ) (j : ℕ). nodeTag keys (put y (8 * (j % 8)) (toLe 8 tag)) (l + 1) i) (content ∙ ap (current h a c (l + 1)) up) low
-        ∙ ap₂ (λ (z j : ℕ). nodeTag keys (put (current h a c (l + 1) (onPath p (l + 1))) (8 * (onPath p l % 8)) (toLe 8 z)) (l + 1) j) (g .last) up
-        ∙ ap (λ (k : ℕ). nodeTag keys (put (current h a c k (onPath p k)) (8 * (onPath p l % 8)) (toLe 8 (renewedTag h keys a c p b l))) k (onPath p k)) (add-one l)
+        ∙ ap₂ (λ (y : List ℕ) (j : ℕ). nodeTag keys (put y (8 * (j % 8)) (toLe 8 tag)) (l + 1) i)
+        (content ∙ ap (current h a c (l + 1)) up) low
+        ∙ ap₂ (λ (z j : ℕ). nodeTag keys (put (current h a c (l + 1) (onPath p (l + 1))) (8 * (onPath p l % 8)) (toLe 8 z)) (l + 1) j)
+        (g .last) up
+        ∙ ap (λ (k : ℕ). nodeTag keys (put (current h a c k (onPath p k)) (8 * (onPath p l % 8)) (toLe 8 (renewedTag h keys a c p b l))) k
+        (onPath p k)) (add-one l)
         ∙ ap (renewedTag h keys a c p b) (sym (add-one l))
 
     pub tagging-next : Tagging h keys a c p b (set tags (l + 1) t) t (l + 1)
     tagging-next =
-        record { levels = omega arith; size = length-set tags (l + 1) t ∙ g .size; known = λ k q. at k q (lt-eq-gt k (l + 1)); last = next-tag }
+        record {
+          levels = omega arith;
+          size = length-set tags (l + 1) t
+              ∙ g .size;
+          known = λ k q. at k q (lt-eq-gt k (l + 1));
+          last = next-tag;
+        }
       where
         at : (k : ℕ) → k ≤ l + 1 → (k < l + 1) ⊎ ((k ≡ l + 1) ⊎ (l + 1 < k)) → getD (set tags (l + 1) t) k 0 ≡ renewedTag h keys a c p b k
         at k q (inl r) = getD-set-other tags (l + 1) k t 0 (λ e. omega arith) ∙ g .known k (omega arith)
@@ -82,9 +94,6 @@ module _ (keys : List ℕ) (line : ℕ) (text : List ℕ) (ma mi : ℕ) (size : 
   abbrev sealed : List ℕ
   sealed = xorBytes text (pad keys line ma mi)
 
-  pub sealed-length : length sealed ≡ 64
-  sealed-length = length-xor text (pad keys line ma mi) (rw (length-pad, size) (le-refl 64)) ∙ size
-
   pub side-digits : (t : ℕ) → t ≡ dataTag keys sealed line ma mi → toLe 8 (mi % 4 + 256 * t) ≡ sideBytes keys sealed line ma mi
   unfolding digits
   side-digits t e =
@@ -99,25 +108,22 @@ module _ (keys : List ℕ) (line : ℕ) (text : List ℕ) (ma mi : ℕ) (size : 
   seal-bytes cell b t l e f =
       let w = toLe 8 (mi % 4 + 256 * t) in
       let wide = length-digits 256 8 (mi % 4 + 256 * t) in
-      let full : length b ≡ 64 = ap length e ∙ sealed-length in
-      ap (λ (x : List ℕ). put x 64 w) (part-put cell 0 b 64 full) ∙ ap (λ (i : ℕ). put (put cell 0 b) i w) (sym (zero-add 64) ∙ ap (λ (i : ℕ). 0 + i) (sym full))
+      let full : length b ≡ 64 = ap length e ∙ sealed-length keys line text ma mi size in
+      ap (λ (x : List ℕ). put x 64 w) (part-put cell 0 b 64 full)
+      ∙ ap (λ (i : ℕ). put (put cell 0 b) i w) (sym (zero-add 64) ∙ ap (λ (i : ℕ). 0 + i) (sym full))
       ∙ put-append cell 0 b w (omega arith) ∙ put-all cell (b ++ w) (rw length-append (omega arith))
       ∙ ap₂ {C = List ℕ} _++_ e (side-digits t (f ∙ ap (λ (x : List ℕ). dataTag keys x line ma mi) (take-at b (drop 64 cell) 64 full ∙ e)))
 
 -- number and cell, one after the other, where the allowance goes that far
-pub line-put : (k : List ℕ) (n allowance : ℕ) (c : Cell) → length k ≡ controlLength → n < 8 → n < allowance → length (c .bytes) ≡ 72 → (at : ℕ) → at ≡ placeAt n
+pub line-put : (k : List ℕ) (n allowance : ℕ) (c : Cell) → length k ≡ controlLength → n < 8 → n < allowance → length (c .bytes) ≡ 72
+    → (at : ℕ) → at ≡ placeAt n
     → put (put k at (toLe 8 (c .number))) (at + 8) (c .bytes) ≡ staged allowance n c k
 unfolding staged
 line-put k n allowance c size few within full at e =
     let w = length-digits 256 8 (c .number) in
     ap (λ (i : ℕ). put (put k at (toLe 8 (c .number))) (at + i) (c .bytes)) (sym w)
-    ∙ put-append k at (toLe 8 (c .number)) (c .bytes) (omega arith) ∙ ap (λ (i : ℕ). put k i (toLe 8 (c .number) ++ c .bytes)) e ∙ rw (lt-ltb n allowance within)
-
-pub line-cell-length : (keys : List ℕ) (line : ℕ) (text : List ℕ) (ma mi : ℕ) → length text ≡ 64 → length (lineCell keys line text ma mi .bytes) ≡ 72
-unfolding lineCell
-line-cell-length keys line text ma mi e =
-    let b = xorBytes text (pad keys line ma mi) in
-    length-append b (sideBytes keys b line ma mi) ∙ omega (arith, sealed-length keys line text ma mi e, length-digits 256 7 (dataTag keys b line ma mi))
+    ∙ put-append k at (toLe 8 (c .number)) (c .bytes) (omega arith) ∙ ap (λ (i : ℕ). put k i (toLe 8 (c .number) ++ c .bytes)) e
+    ∙ rw (lt-ltb n allowance within)
 
 -- ---- the counter block
 

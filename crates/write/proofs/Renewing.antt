@@ -61,7 +61,8 @@ module _ (h : ℕ) (c : List ℕ) (sized : length c ≡ cacheLength h) (p : ℕ)
   renewed-length zero q = length-with h c sized (slotOf 0 p) (slot-within h 0 p zero-le) (suc p) f b full ∙ sized
   renewed-length (suc l) q =
       let below = renewed-length l (omega arith) in
-      length-with h (renewedBy c p b f tags l) below (slotOf (suc l) (onPath p (suc l))) (slot-within h (suc l) (onPath p (suc l)) q) _ 1 (renewal l) (renewal-length l q)
+      length-with h (renewedBy c p b f tags l) below (slotOf (suc l) (onPath p (suc l))) (slot-within h (suc l) (onPath p (suc l)) q) _ 1
+      (renewal l) (renewal-length l q)
       ∙ below
 
   -- slots of higher levels are as they were
@@ -69,7 +70,8 @@ module _ (h : ℕ) (c : List ℕ) (sized : length c ≡ cacheLength h) (p : ℕ)
   levels-apart k i l j q e = omega (arith, level-slot k i, level-slot l j, ap levelOf e)
 
   pub higher : (l k i : ℕ) → l < k → k ≤ h
-      → (owner (renewedBy c p b f tags l) (slotOf k i) ≡ owner c (slotOf k i)) × (content (renewedBy c p b f tags l) (slotOf k i) ≡ content c (slotOf k i))
+      → (owner (renewedBy c p b f tags l) (slotOf k i) ≡ owner c (slotOf k i))
+      × (content (renewedBy c p b f tags l) (slotOf k i) ≡ content c (slotOf k i))
   unfolding renewedBy
   higher zero k i q r = (
     owner-other h c sized (slotOf 0 p) (slot-within h 0 p zero-le) (suc p) f b full (slotOf k i) (levels-apart k i 0 p q),
@@ -81,8 +83,10 @@ module _ (h : ℕ) (c : List ℕ) (sized : length c ≡ cacheLength h) (p : ℕ)
       let size = renewed-length l (omega arith) in
       let within = slot-within h (suc l) (onPath p (suc l)) (omega arith) in
       let below = higher l k i (omega arith) r in (
-        owner-other h x size s within _ 1 (renewal l) (renewal-length l (omega arith)) (slotOf k i) (levels-apart k i (suc l) (onPath p (suc l)) q) ∙ below .0,
-        content-other h x size s within _ 1 (renewal l) (renewal-length l (omega arith)) (slotOf k i) (levels-apart k i (suc l) (onPath p (suc l)) q) ∙ below .1,
+        owner-other h x size s within _ 1 (renewal l) (renewal-length l (omega arith)) (slotOf k i)
+            (levels-apart k i (suc l) (onPath p (suc l)) q) ∙ below .0,
+        content-other h x size s within _ 1 (renewal l) (renewal-length l (omega arith)) (slotOf k i)
+            (levels-apart k i (suc l) (onPath p (suc l)) q) ∙ below .1,
       )
 
   -- the next slot, in place
@@ -90,7 +94,8 @@ module _ (h : ℕ) (c : List ℕ) (sized : length c ≡ cacheLength h) (p : ℕ)
   unfolding renewedBy
   renew-first s e = ap₂ {C = List ℕ} (λ (i o : ℕ). withSlot c i o f b) e (add-one p)
 
-  pub renew-next : (l : ℕ) → l < h → ((k : ℕ) → k ≤ h → owner c (slotOf k (onPath p k)) ≡ suc (onPath p k)) → (x : List ℕ) → x ≡ renewedBy c p b f tags l
+  pub renew-next : (l : ℕ) → l < h → ((k : ℕ) → k ≤ h → owner c (slotOf k (onPath p k)) ≡ suc (onPath p k)) → (x : List ℕ) → x
+      ≡ renewedBy c p b f tags l
       → (i s j t : ℕ) → i ≡ onPath p (l + 1) → s ≡ slotOf (l + 1) i → j ≡ onPath p l → t ≡ getD tags l 0
       → withSlot x s (owner x s) 1 (put (content x s) (8 * (j % 8)) (toLe 8 t)) ≡ renewedBy c p b f tags (l + 1)
   unfolding renewedBy
@@ -101,6 +106,7 @@ module _ (h : ℕ) (c : List ℕ) (sized : length c ≡ cacheLength h) (p : ℕ)
       let same = higher l k (onPath p k) (omega arith) (omega arith) in
       let r = renewedBy c p b f tags l in
       ap₂ {C = List ℕ} (λ (y : List ℕ) (z : ℕ). withSlot y z (owner y z) 1 (put (content y z) (8 * (j % 8)) (toLe 8 t))) e at
-      ∙ ap₂ {C = List ℕ} (λ (o : ℕ) (z : List ℕ). withSlot r s' o 1 (put z (8 * (j % 8)) (toLe 8 t))) (same .0 ∙ held k (omega arith)) (same .1)
+      ∙ ap₂ {C = List ℕ} (λ (o : ℕ) (z : List ℕ). withSlot r s' o 1 (put z (8 * (j % 8)) (toLe 8 t))) (same .0 ∙ held k (omega arith))
+      (same .1)
       ∙ ap₂ {C = List ℕ} (λ (u v : ℕ). withSlot r s' (suc (onPath p k)) 1 (put (content c s') (8 * (u % 8)) (toLe 8 v))) low tag
       ∙ ap (renewedBy c p b f tags) (sym (add-one l))

@@ -1,30 +1,36 @@
 -- How a write of an accepted module ends. Assumes nothing.
-use mathlib.Core.Path.{_≡_, refl, sym, ap, ap₂, _∙_, subst}
+use mathlib.Core.Path.{_≡_, refl, sym, ap, ap₂, _∙_}
 use mathlib.Core.Bool.{Bool, true, false, cond}
 use mathlib.Core.List.{List, [], _∷_, _++_}
-use Prim.Native.Nat.{ℕ, zero, suc, _+_, zero-le}
+use Prim.Native.Nat.{ℕ, zero, suc, _+_}
 use native.Mathlib.Numerals.{add-one}
 use borrow.Author.Tests.{eq-eqb, ne-eqb}
 use lib.Dec.{eqb}
 use lib.ListN.{length}
-use Rattle.memory_map.specs.Map.{pageOf, placeOf, onPath}
-use Rattle.memory_map.proofs.Laws.{path-bottom}
-use Rattle.slot_map.specs.Slots.{slotOf}
-use Rattle.counter.specs.Counter.{major, minor, withMinor, phaseOf}
+use Rattle.memory_map.specs.Map.{pageOf, placeOf}
+use Rattle.counter.specs.Counter.{withMinor, phaseOf}
 use Rattle.answer.specs.declared.Answer.the-variants.{Done, Refused}
-use Rattle.control.specs.Control.{Cell, depth, root}
-use Rattle.cache.specs.Cache.{content, current}
+use Rattle.control.specs.Control.{Cell}
+use Rattle.cache.specs.Cache.{current}
 use Rattle.journal.specs.Journal.{batchStores}
-use Rattle.calls.specs.Path.{loaded, differs, loadPath, renewPath, renewedRoot}
+use Rattle.calls.specs.Path.{differs, renewPath, renewedRoot}
 use Rattle.calls.specs.Call.{Module, Called, buffers, ended, storing, pathOf, accessRefusal}
-use Rattle.calls.specs.Read.{lineMinor, pageBlock}
-use Rattle.calls.specs.Write.{newMinor, newBlock, stopLoss, dataCell, writeBatch, writeStores, writtenCache, writeLoaded, writePath, writeJudged, write}
+use Rattle.calls.specs.Read.{lineMinor}
+use Rattle.calls.specs.Write.{newMinor, newBlock, stopLoss, dataCell, writeBatch, writeStores}
+use Rattle.calls.specs.Write.{writtenCache, writeLoaded, writePath, writeJudged, write}
+use Rattle.call_laws.specs.Line.{lineCell, blockCells, lineCells}
 use Rattle.call_laws.specs.Walk.{pathCells, withPath}
-use Rattle.call_laws.proofs.Loading.{path-content}
-use Rattle.path.proofs.Ready.{Ready}
-use Rattle.write.specs.Parts.{lineCell, blockCells, lineCells, storedLine}
+use Rattle.path.specs.declared.Counter.{Counter}
+use Rattle.path.proofs.Ready.{Found, block-found, major-found, minor-found}
+use Rattle.write.specs.Parts.{storedLine}
 
-module _ {h : ℕ} {a k c : List ℕ} (keys : List ℕ) (line : ℕ) (text : List ℕ) (allowance : ℕ) (deep : h ≡ depth k) (y : Ready h a k c (pageOf line)) where
+pub write-differs : (keys : List ℕ) (line : ℕ) (text : List ℕ) (allowance : ℕ) (m : Module) {l i : ℕ} → pathOf keys line m ≡ differs l i
+    → ended (Refused 24 0 l i) (m .array) (m .control) (m .cache) ≡ writePath keys line text allowance m (pathOf keys line m)
+unfolding writePath
+write-differs keys line text allowance m e = sym (ap (writePath keys line text allowance m) e)
+
+-- the path is loaded, and n is the line's counter
+module _ {h : ℕ} {keys a k c : List ℕ} {line : ℕ} {n : Counter} (found : Found h keys a k c line n) (text : List ℕ) (allowance : ℕ) where
   abbrev m : Module
   m = buffers a k c
 
@@ -34,75 +40,57 @@ module _ {h : ℕ} {a k c : List ℕ} (keys : List ℕ) (line : ℕ) (text : Lis
   abbrev d : List ℕ
   d = withPath h a p (suc h) c
 
+  abbrev x : List Cell
+  x = pathCells h c p (suc h)
+
   abbrev whole : Called
   whole = writePath keys line text allowance m (pathOf keys line m)
 
-  as-path : {l : _} → loadPath h keys a (root k) p c ≡ l → whole ≡ writePath keys line text allowance m l
-  as-path e = ap (writePath keys line text allowance m) (ap (λ (n : ℕ). loadPath n keys a (root k) p c) (sym deep) ∙ e)
+  -- what its next counter gives
+  abbrev next : List ℕ
+  next = withMinor (current h a c 0 p) (placeOf line) (n .minor + 1)
 
-  pub write-differs : (l i : ℕ) → loadPath h keys a (root k) p c ≡ differs l i → ended (Refused 24 0 l i) a k c ≡ whole
-  unfolding writePath
-  write-differs l i e = sym (as-path e)
+  next-minor : newMinor d line ≡ n .minor + 1
+  next-minor = ap (λ (i : ℕ). suc i) (minor-found found) ∙ sym (add-one (n .minor))
 
-  -- the path is loaded: its counter block is the one that was found
-  module _ (path : loadPath h keys a (root k) p c ≡ loaded d (pathCells h c p (suc h))) (ma mi : ℕ)
-      (major-is : ma ≡ major (current h a c 0 p)) (minor-is : mi ≡ minor (current h a c 0 p) (placeOf line)) where
-    block : pageBlock d line ≡ current h a c 0 p
-    block =
-        subst (λ (i : ℕ). content d (slotOf 0 i) ≡ current h a c 0 i) (path-bottom p)
-        (path-content h (y .sized .flat) keys a (y .sized .array) (root k) p (y .page) c (y .sized .cache) 0 zero-le)
+  next-block : newBlock d line ≡ next
+  unfolding newBlock
+  next-block = ap₂ {C = List ℕ} (λ (b : List ℕ) (i : ℕ). withMinor b (placeOf line) i) (block-found found) next-minor
 
-    minor-same : lineMinor d line ≡ mi
-    minor-same = ap (λ (b : List ℕ). minor b (placeOf line)) block ∙ sym minor-is
+  next-cell : dataCell keys line text d ≡ lineCell keys line text (n .major) (n .minor + 1)
+  unfolding dataCell lineCell
+  next-cell = ap₂ {C = Cell} (λ (i j : ℕ). lineCell keys line text i j) (major-found found) next-minor
 
-    major-same : major (pageBlock d line) ≡ ma
-    major-same = ap major block ∙ sym major-is
+  next-batch : writeBatch h keys line text d x ≡ lineCells h keys c line text (n .major) (n .minor + 1) next
+  unfolding writeBatch lineCells blockCells
+  next-batch =
+      ap₂ {C = List Cell} (λ (i : ℕ) (b : List ℕ). (x ++ blockCells h p i b) ++ (dataCell keys line text d ∷ [])) next-minor next-block
+      ∙ ap (λ (z : Cell). (x ++ blockCells h p (n .minor + 1) next) ++ (z ∷ [])) next-cell
 
-    abbrev next : List ℕ
-    next = withMinor (current h a c 0 p) (placeOf line) (mi + 1)
+  -- full, or the batch bs stored and the path renewed by the block b; t tells whether the block is stored
+  abbrev stored : Bool → List Cell → List ℕ → Bool → Called
+  stored full bs b t =
+      let xs = batchStores bs (renewedRoot h keys d p b) in
+      cond full (ended (Refused 26 0 0 0) a k c) (storing allowance m xs (Done (length xs) 0) (renewPath keys d p b (cond t 0 1) h))
 
-    next-minor : newMinor d line ≡ mi + 1
-    next-minor = ap (λ (i : ℕ). suc i) minor-same ∙ sym (add-one mi)
+  by-minor : (full : Bool) → eqb (n .minor) 127 ≡ full
+      → whole ≡ cond full (ended (Refused 26 0 0 0) a k c) (storedLine h keys line text (n .major) (n .minor + 1) next allowance m)
+  unfolding writePath writeLoaded writeStores writtenCache
+  by-minor full e =
+      ap (writePath keys line text allowance m) (found .path)
+      ∙ ap (λ (i : ℕ). let xs = writeStores i keys line text d x in cond (eqb (lineMinor d line) 127) (ended (Refused 26 0 0 0) a k c)
+      (storing allowance m xs (Done (length xs) 0) (writtenCache i keys line d))) (sym (found .deep))
+      ∙ ap (λ (t : Bool). stored t (writeBatch h keys line text d x) (newBlock d line) (stopLoss d line))
+      (ap (λ (i : ℕ). eqb i 127) (minor-found found) ∙ e)
+      ∙ ap₂ {C = Called} (λ (bs : List Cell) (b : List ℕ). stored full bs b (stopLoss d line)) next-batch next-block
+      ∙ ap (λ (i : ℕ). stored full (lineCells h keys c line text (n .major) (n .minor + 1) next) next (eqb (phaseOf i) 0)) next-minor
 
-    next-block : newBlock d line ≡ next
-    unfolding newBlock
-    next-block = ap₂ {C = List ℕ} (λ (b : List ℕ) (i : ℕ). withMinor b (placeOf line) i) block next-minor
+  -- 26
+  pub write-full : n .minor ≡ 127 → ended (Refused 26 0 0 0) a k c ≡ whole
+  write-full e = sym (by-minor true (eq-eqb (n .minor) 127 e))
 
-    next-cell : dataCell keys line text d ≡ lineCell keys line text ma (mi + 1)
-    unfolding dataCell lineCell
-    next-cell = ap₂ {C = Cell} (λ (x z : ℕ). lineCell keys line text x z) major-same next-minor
-
-    next-batch : writeBatch h keys line text d (pathCells h c p (suc h)) ≡ lineCells h keys c line text ma (mi + 1) next
-    unfolding writeBatch lineCells blockCells
-    next-batch =
-        ap₂ {C = List Cell} (λ (i : ℕ) (b : List ℕ). (pathCells h c p (suc h) ++ blockCells h p i b) ++ (dataCell keys line text d ∷ [])) next-minor next-block
-        ∙ ap (λ (x : Cell). (pathCells h c p (suc h) ++ blockCells h p (mi + 1) next) ++ (x ∷ [])) next-cell
-
-    by-minor : (b : Bool) → eqb mi 127 ≡ b
-        → whole ≡ cond b (ended (Refused 26 0 0 0) a k c) (storedLine h keys line text ma (mi + 1) next allowance m)
-    unfolding writePath writeLoaded writeStores writtenCache
-    by-minor b e =
-        as-path path
-        ∙ ap (λ (n : ℕ). cond (eqb (lineMinor d line) 127) (ended (Refused 26 0 0 0) a k c)
-        (storing allowance m (writeStores n keys line text d (pathCells h c p (suc h))) (Done (length (writeStores n keys line text d (pathCells h c p (suc h)))) 0)
-        (writtenCache n keys line d))) (sym deep)
-        ∙ ap (λ (t : Bool). cond t (ended (Refused 26 0 0 0) a k c)
-        (storing allowance m (writeStores h keys line text d (pathCells h c p (suc h))) (Done (length (writeStores h keys line text d (pathCells h c p (suc h)))) 0)
-        (writtenCache h keys line d))) (ap (λ (i : ℕ). eqb i 127) minor-same ∙ e)
-        ∙ ap₂ {C = Called} (λ (x : List Cell) (z : List ℕ). cond b (ended (Refused 26 0 0 0) a k c)
-        (storing allowance m (batchStores x (renewedRoot h keys d p z)) (Done (length (batchStores x (renewedRoot h keys d p z))) 0)
-        (renewPath keys d p z (cond (stopLoss d line) 0 1) h))) next-batch next-block
-        ∙ ap (λ (i : ℕ). cond b (ended (Refused 26 0 0 0) a k c)
-        (storing allowance m (batchStores (lineCells h keys c line text ma (mi + 1) next) (renewedRoot h keys d p next))
-        (Done (length (batchStores (lineCells h keys c line text ma (mi + 1) next) (renewedRoot h keys d p next))) 0)
-        (renewPath keys d p next (cond (eqb (phaseOf i) 0) 0 1) h))) next-minor
-
-    -- 26
-    pub write-full : mi ≡ 127 → ended (Refused 26 0 0 0) a k c ≡ whole
-    write-full e = sym (by-minor true (eq-eqb mi 127 e))
-
-    pub write-stored : (mi ≡ 127 → ⊥) → storedLine h keys line text ma (mi + 1) next allowance m ≡ whole
-    write-stored e = sym (by-minor false (ne-eqb mi 127 e))
+  pub write-stored : (n .minor ≡ 127 → ⊥) → storedLine h keys line text (n .major) (n .minor + 1) next allowance m ≡ whole
+  write-stored e = sym (by-minor false (ne-eqb (n .minor) 127 e))
 
 -- ---- refused, or accepted
 
@@ -114,6 +102,7 @@ module _ (keys : List ℕ) (line : ℕ) (text : List ℕ) (allowance : ℕ) (a k
   write-refused (suc n) e p = ap (λ (i : ℕ). writeJudged i keys line text allowance (buffers a k c)) e
 
   pub write-accepted : 0 ≡ accessRefusal keys line text (buffers a k c)
-      → writePath keys line text allowance (buffers a k c) (pathOf keys line (buffers a k c)) ≡ write keys line text allowance (buffers a k c)
+      → writePath keys line text allowance (buffers a k c) (pathOf keys line (buffers a k c))
+      ≡ write keys line text allowance (buffers a k c)
   unfolding writeJudged
   write-accepted e = ap (λ (i : ℕ). writeJudged i keys line text allowance (buffers a k c)) e

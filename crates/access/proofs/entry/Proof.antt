@@ -18,10 +18,13 @@ returns : tie.Need-returns
 returns c = refused-first _ _ _ _ _ (c .before .opening .ensures) (c .if1 .taken)
 
 -- past the first test
-abbrev given : tie.Else1 → Module
-given c = let a = c .before .before .before .before .before .before .before .args in buffers (a .array .now) (a .control .now) (a .cache .now)
+abbrev start : tie.Else1 → tie.Start
+start c = c .before .before .before .before .before .before .before
 
-opened : (c : tie.Else1) → Opened (c .before .before .before .before .before .before .before .args .keys .now) (given c)
+abbrev given : tie.Else1 → Module
+given c = let a = start c .args in buffers (a .array .now) (a .control .now) (a .cache .now)
+
+opened : (c : tie.Else1) → Opened (start c .args .keys .now) (given c)
 opened c = recovery-opened _ _ (sym (c .before .opening .ensures) ∙ c .if1 .left)
 
 returns-2 : tie.Need-returns-2
@@ -36,7 +39,7 @@ deep c = let head = head-of _ _ (opened (c .before .before)) in omega (arith, c 
 lines-requires : tie.Need-lines-requires
 lines-requires c κs = deep c
 
-lines-are : (c : tie.After-lines) → c .lines .result ≡ lines (depth (c .before .before .before .before .before .before .before .before .before .before .args .control .now))
+lines-are : (c : tie.After-lines) → c .lines .result ≡ lines (depth (start (c .before .before .before) .args .control .now))
 lines-are c = c .lines .ensures ∙ ap lines (c .before .depth .ensures)
 
 returns-3 : tie.Need-returns-3
@@ -44,7 +47,8 @@ returns-3 c =
     let at = c .before .before in
     wrong-line _ _ _ _ (opened (at .before .before)) (at .before .if2 .left) (rw (← lines-are (c .before)) (c .if3 .taken))
 
-inside : (c : tie.Else3) → c .before .before .before .before .before .before .before .before .before .before .before .args .line < lines (depth (c .before .before .before .before .before .before .before .before .before .before .before .args .control .now))
+inside : (c : tie.Else3)
+    → let a = start (c .before .before .before .before) .args in a .line < lines (depth (a .control .now))
 inside c = omega (arith, lines-are (c .before), c .if3 .left)
 
 count-requires : tie.Need-count-requires
@@ -53,12 +57,14 @@ count-requires c κs = opened (c .before .before .before .before) .record664
 returns-4 : tie.Need-returns-4
 returns-4 c =
     let at = c .before .before .before .before in
-    is-pending _ _ _ _ (opened (at .before .before)) (at .before .if2 .left) (inside (c .before .before)) (λ e. c .if4 .taken (c .before .count .ensures ∙ e))
+    is-pending _ _ _ _ (opened (at .before .before)) (at .before .if2 .left) (inside (c .before .before))
+    (λ e. c .if4 .taken (c .before .count .ensures ∙ e))
 
 returns-5 : tie.Need-returns-5
 returns-5 c =
     let at = c .before .before .before .before in
-    is-idle _ _ _ _ (opened (at .before .before)) (at .before .if2 .left) (inside (c .before .before)) (sym (c .before .count .ensures) ∙ c .if4 .left)
+    is-idle _ _ _ _ (opened (at .before .before)) (at .before .if2 .left) (inside (c .before .before))
+    (sym (c .before .count .ensures) ∙ c .if4 .left)
 
 pub entry-spec : {M : Type 1} → statement M
 entry-spec =

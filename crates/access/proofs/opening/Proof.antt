@@ -25,10 +25,14 @@ valid-requires c κs = search needs
 returns-3 : tie.Need-returns-3
 returns-3 c =
     let test = c .before .before in
-    not-valid _ _ (test .before .if1 .left) (test .if2 .left) (sym (c .before .valid .ensures) ∙ not-true (c .before .valid .result) (c .if3 .taken))
+    not-valid _ _ (test .before .if1 .left) (test .if2 .left)
+    (sym (c .before .valid .ensures) ∙ not-true (c .before .valid .result) (c .if3 .taken))
 
 -- past the third test
-is-valid : (c : tie.Else3) → valid (c .before .before .before .before .before .before .before .before .args .control .now) ≡ true
+abbrev start : tie.Else3 → tie.Start
+start c = c .before .before .before .before .before .before .before .before
+
+is-valid : (c : tie.Else3) → valid (start c .args .control .now) ≡ true
 is-valid c = sym (c .before .valid .ensures) ∙ not-false (c .before .valid .result) (c .if3 .left)
 
 depth-requires : tie.Need-depth-requires
@@ -40,7 +44,7 @@ deep c = let head = valid-parts (is-valid (c .before)) .0 in omega (arith, c .de
 array-length-requires : tie.Need-array-length-requires
 array-length-requires c κs = deep c
 
-array-size : (c : tie.After-array-length) → c .array-length .result ≡ arrayLength (depth (c .before .before .before .before .before .before .before .before .before .before .args .control .now))
+array-size : (c : tie.After-array-length) → c .array-length .result ≡ arrayLength (depth (start (c .before .before) .args .control .now))
 array-size c = c .array-length .ensures ∙ ap arrayLength (c .before .depth .ensures)
 
 returns-4 : tie.Need-returns-4
@@ -53,7 +57,8 @@ returns-4 c =
 cache-length-requires : tie.Need-cache-length-requires
 cache-length-requires c κs = deep (c .before .before)
 
-cache-size : (c : tie.After-cache-length) → c .cache-length .result ≡ cacheLength (depth (c .before .before .before .before .before .before .before .before .before .before .before .before .args .control .now))
+cache-size : (c : tie.After-cache-length)
+    → c .cache-length .result ≡ cacheLength (depth (start (c .before .before .before .before) .args .control .now))
 cache-size c = c .cache-length .ensures ∙ ap cacheLength (c .before .before .before .depth .ensures)
 
 returns-5 : tie.Need-returns-5

@@ -47,7 +47,8 @@ returns c =
     last .zero .ensures
     ∙ ap (λ (x : List ℕ). put x (placeAt (a .n) + 16) (replicate 64 0))
     (second .store642 .ensures ∙ ap (λ (x : List ℕ). put x (placeAt (a .n) + 8) (toLe 8 (a .owner))) (first .store64 .ensures))
-    ∙ shadow-put (a .control .now) (a .n) (a .allowance) (a .number) (omega (arith, start .pre .0, start .pre .1)) (test .if1 .taken) (a .owner)
+    ∙ shadow-put (a .control .now) (a .n) (a .allowance) (a .number) (omega (arith, start .pre .0, start .pre .1)) (test .if1 .taken)
+    (a .owner)
 
 returns-2 : tie.Need-returns-2
 returns-2 c =

@@ -32,7 +32,8 @@ returns c =
 answered : (c : tie.After-dirty-pages) → c .dirty-pages .result ≡ defined (c .before .before .before)
 answered c =
     let a = start (c .before .before .before) .args in
-    list-answer (a .control .now) (a .cache .now) (a .list .now) (c .dirty-pages .result) (c .dirty-pages .last .1 .1 .0) (c .dirty-pages .ensures)
+    list-answer (a .control .now) (a .cache .now) (a .list .now) (c .dirty-pages .result) (c .dirty-pages .last .1 .1 .0)
+    (c .dirty-pages .ensures)
 
 dirty-pages-requires : tie.Need-dirty-pages-requires
 dirty-pages-requires c κs = search needs
@@ -58,7 +59,8 @@ returns-2 c =
       right-code (a .numbers .now) right (told .tell .result) (told .tell .ensures .0) (answered call),
       (
         right-buffer (a .numbers .now) right (told .tell .last .1 .0) (told .tell .ensures .1) (answered call),
-        list-right (a .control .now) (a .cache .now) (a .list .now) (a .numbers .now) right (call .dirty-pages .result) (call .dirty-pages .last .1 .1 .0) (call .dirty-pages .ensures),
+        list-right (a .control .now) (a .cache .now) (a .list .now) (a .numbers .now) right (call .dirty-pages .result)
+            (call .dirty-pages .last .1 .1 .0) (call .dirty-pages .ensures),
       ),
     )
 

@@ -21,18 +21,27 @@ defined c = let a = start c .args in read (a .keys .now) (a .line) (a .allowance
 returns : tie.Need-returns
 returns c =
     let at = c .before in
-    let all = wrong-call (start at .args .numbers .now) (c .if1 .taken) (given at) (defined at .called) in
-    (all .0, (all .1 .0, (all .1 .1, wrong-left (start at .args .numbers .now) (c .if1 .taken) (start at .args .out .now) (defined at .output))))
+    let all = wrong-call (start at .args .numbers .now) (c .if1 .taken) (given at) (defined at .called) in (
+      all .0,
+      (
+        all .1 .0,
+        (
+          all .1 .1,
+          wrong-left (start at .args .numbers .now) (c .if1 .taken) (start at .args .out .now)
+              (defined at .output),
+        ),
+      ),
+    )
 
 read-requires : tie.Need-read-requires
 read-requires c κs = search needs
 
 tell-requires : tie.Need-tell-requires
 tell-requires c κs =
-    let call = c .before .before .before .before .before .before .before .before .before in
-    let at = call .before .before .before .before .before .before in (
+    let call = c .before .before .before .before .before .before .before .before .before in (
       call .before .before .before .before .before .if1 .left,
-      code-small (defined at .called) (call .read .result) (buffers (call .read .last .1 .1 .0) (call .read .last .1 .0) (call .read .last .1 .1 .1 .0)) (ap (λ (x : Reading). x .called) (call .read .ensures)) (read-fits (start at .args .keys .now) (start at .args .line) (start at .args .allowance) (start at .args .out .now) (given at) .code),
+      code-small (ap (λ (x : Reading). x .called) (call .read .ensures))
+          (read-fits _ _ _ _ _),
     )
 
 same-length : tie.Need-same-length
@@ -57,14 +66,15 @@ returns-2 c =
     let at = call .before .before .before .before .before .before in
     let right = call .before .before .before .before .before .if1 .left in
     let all =
-    right-call (start at .args .numbers .now) right (given at) (defined at .called) (call .read .result)
-    (buffers (call .read .last .1 .1 .0) (call .read .last .1 .0) (call .read .last .1 .1 .1 .0)) (ap (λ (x : Reading). x .called) (call .read .ensures)) (told .tell .result) (told .tell .ensures .0) (told .tell .last .1 .0) (told .tell .ensures .1) in (
+    right-call (start at .args .numbers .now) right (given at) (ap (λ (x : Reading). x .called) (call .read .ensures))
+    (told .tell .ensures .0) (told .tell .ensures .1) in (
       all .0,
       (
         all .1 .0,
         (
           all .1 .1,
-          right-left (start at .args .numbers .now) right (start at .args .out .now) (defined at .output) (call .read .last .1 .1 .1 .1 .1 .0)
+          right-left (start at .args .numbers .now) right (start at .args .out .now) (defined at .output)
+              (call .read .last .1 .1 .1 .1 .1 .0)
               (ap (λ (x : Reading). x .output) (call .read .ensures)),
         ),
       ),

@@ -29,7 +29,8 @@ returns c =
     let s = first .before .before .before in
     let a = s .args in
     third .store643 .ensures
-    ∙ ap (λ (l : List ℕ). put l 16 (toLe 8 (a .second))) (second .store642 .ensures ∙ ap (λ (l : List ℕ). put l 8 (toLe 8 (a .first))) (first .store64 .ensures))
+    ∙ ap (λ (l : List ℕ). put l 16 (toLe 8 (a .second)))
+    (second .store642 .ensures ∙ ap (λ (l : List ℕ). put l 8 (toLe 8 (a .first))) (first .store64 .ensures))
     ∙ numbers-put (a .numbers .now) (a .stores) (a .first) (a .second) (s .pre)
 
 pub put-numbers-spec : {M : Type 1} → statement M

@@ -31,7 +31,8 @@ turn c b e =
     let at = c .before .before in
     let a = at .before .before .args in
     at .loop .inv .1
-    ∙ empty-turn (a .cache .now) (a .n) (at .loop .s) b (c .before .loop-test .taken) (ap (λ (o : ℕ). eqb o 0) (sym (c .owner .ensures)) ∙ e)
+    ∙ empty-turn (a .cache .now) (a .n) (at .loop .s) b (c .before .loop-test .taken)
+    (ap (λ (o : ℕ). eqb o 0) (sym (c .owner .ensures)) ∙ e)
 
 returns : tie.Need-returns Inv-loop μ-loop
 returns c = sym (ap not (turn (c .before) false (ne-eqb (c .before .owner .result) 0 (c .if1 .taken))))

@@ -31,7 +31,8 @@ returns c =
     let at = c .before .before in
     let start = at .before in
     let size : length (start .args .t2) ≡ 10 = search needs in
-    sym (at .loop .inv .1 ∙ any-turn (start .args .t2) (start .args .n) (at .loop .s) false (omega arith) (omega arith) (ne-eqb _ _ (c .if1 .taken)))
+    sym (at .loop .inv .1 ∙ any-turn (start .args .t2) (start .args .n) (at .loop .s) false (omega arith) (omega arith)
+    (ne-eqb _ _ (c .if1 .taken)))
 
 add-s : tie.Need-add-s Inv-loop μ-loop
 add-s c = omega arith
@@ -43,8 +44,11 @@ loop-again : tie.Need-loop-again Inv-loop μ-loop
 loop-again c =
     let at = c .before .before in
     let start = at .before in
-    let size : length (start .args .t2) ≡ 10 = search needs in
-    (omega arith, at .loop .inv .1 ∙ any-turn (start .args .t2) (start .args .n) (at .loop .s) true (omega arith) (omega arith) (eq-eqb _ _ (c .if1 .left)))
+    let size : length (start .args .t2) ≡ 10 = search needs in (
+      omega arith,
+      at .loop .inv .1 ∙ any-turn (start .args .t2) (start .args .n) (at .loop .s) true (omega arith) (omega arith)
+          (eq-eqb _ _ (c .if1 .left)),
+    )
 
 returns-2 : tie.Need-returns-2 Inv-loop μ-loop
 returns-2 c =

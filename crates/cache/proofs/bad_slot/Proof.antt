@@ -25,7 +25,8 @@ enum-known-found c = search needs
 returns : tie.Need-returns
 returns c =
     let start = c .before .before .before .before in
-    bad-stray (start .args .h) _ (take (slots (start .args .h)) (start .args .t2)) (sym (c .before .before .before .first-stray .ensures) ∙ c .before .found .given .1)
+    bad-stray (start .args .h) _ (take (slots (start .args .h)) (start .args .t2))
+    (sym (c .before .before .before .first-stray .ensures) ∙ c .before .found .given .1)
 
 enum-told : tie.Need-enum-told
 enum-told c = search needs
@@ -75,7 +76,9 @@ any c =
     ap (λ (n : ℕ). anyOwner (take n (a .t2))) (sym (c .before .slots .ensures)) ∙ sym (c .any-owner .ensures)
 
 returns-3 : tie.Need-returns-3
-returns-3 c = end (c .before .before .before .before) true (ap₂ _&&_ (any (c .before) ∙ c .if2 .taken) (eq-eqb _ _ (c .before .before .before .if1 .left)))
+returns-3 c =
+    end (c .before .before .before .before) true
+    (ap₂ _&&_ (any (c .before) ∙ c .if2 .taken) (eq-eqb _ _ (c .before .before .before .if1 .left)))
 
 returns-4 : tie.Need-returns-4
 returns-4 c =

@@ -55,7 +55,8 @@ returns : tie.Need-returns Inv-loop μ-loop
 returns c =
     let call = c .before in
     rw (← call .before .before .before .before .slots .ensures)
-    (sym (turn (call .before .before) false (place-filled _ _ (call .before .if1 .taken) ∙ sym (call .belongs .ensures) ∙ not-true _ (c .if2 .taken))))
+    (sym (turn (call .before .before) false
+    (place-filled _ _ (call .before .if1 .taken) ∙ sym (call .belongs .ensures) ∙ not-true _ (c .if2 .taken))))
 
 add-s : tie.Need-add-s Inv-loop μ-loop
 unfolding slots
@@ -68,14 +69,16 @@ loop-again : tie.Need-loop-again Inv-loop μ-loop
 loop-again c = (
   omega arith,
   turn (c .before) true
-      (⊎-elim (λ w. place-filled _ _ (w .0 .taken) ∙ sym (w .1 .ensures) ∙ not-false _ (w .2 .left)) (λ w. place-empty _ _ (w .left)) (c .if1 .came)),
+      (⊎-elim (λ w. place-filled _ _ (w .0 .taken) ∙ sym (w .1 .ensures) ∙ not-false _ (w .2 .left)) (λ w. place-empty _ _ (w .left))
+      (c .if1 .came)),
 )
 
 returns-2 : tie.Need-returns-2 Inv-loop μ-loop
 returns-2 c =
     let at = c .before in
     let start = at .before .before in
-    rw (← at .before .slots .ensures) (sym (at .loop .inv .1 ∙ stray-end (start .args .h) (start .args .t2) (at .before .slots .result) (at .loop .s) (c .loop-test .left)))
+    rw (← at .before .slots .ensures)
+    (sym (at .loop .inv .1 ∙ stray-end (start .args .h) (start .args .t2) (at .before .slots .result) (at .loop .s) (c .loop-test .left)))
 
 pub first-stray-spec : {M : Type 1} → statement M
 first-stray-spec =

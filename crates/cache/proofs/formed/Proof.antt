@@ -36,7 +36,8 @@ slots-fit-requires : tie.Need-slots-fit-requires Inv-loop μ-loop
 slots-fit-requires c κs = let a = c .before .before .args in omega (arith, room (a .h) (a .cache .now) (c .before .before .pre .1 .1))
 
 low : (c : tie.After-slots-fit Inv-loop μ-loop) (b : Bool) → c .slots-fit .result ≡ b
-    → let a = c .before .before .before .args in formed (a .h) (a .cache .now) ≡ (b && (levels (a .h) (a .cache .now) 0 (a .h) && topped (a .h) (a .cache .now)))
+    → let a = c .before .before .before .args in formed (a .h) (a .cache .now)
+    ≡ (b && (levels (a .h) (a .cache .now) 0 (a .h) && topped (a .h) (a .cache .now)))
 low c b e =
     let a = c .before .before .before .args in
     by-level (a .h) (a .cache .now)
@@ -111,7 +112,8 @@ left c b e =
     let at = c .before .before .before in
     let a = at .before .before .before .before .before .args in
     at .loop .inv .1
-    ∙ ap (λ (t : Bool). t && topped (a .h) (a .cache .now)) (level-end (a .h) (a .cache .now) (at .loop .l) (c .before .before .loop-test .left))
+    ∙ ap (λ (t : Bool). t && topped (a .h) (a .cache .now))
+    (level-end (a .h) (a .cache .now) (at .loop .l) (c .before .before .loop-test .left))
     ∙ ap (λ (t : Bool). not t || not (anyOwner (cacheOwners (a .h) (a .cache .now))))
     (ap (λ (o : ℕ). eqb o 0) (ap (owner (a .cache .now)) (sym (c .before .slot-of .ensures)) ∙ sym (c .owner .ensures)) ∙ e)
 

@@ -13,7 +13,8 @@ use Rattle.cache.proofs.owners_at.Tie as tie
 
 abbrev Inv-loop : tie.InvT-loop
 Inv-loop bytes first step n owners₀ at₀ s₀ owners at s =
-    (s ≤ n) × ((at ≡ first + step * s) × ((length owners ≡ 10) × (take s owners ≡ from (λ k. fromLe (part bytes (first + step * k) 8)) 0 s)))
+    (s ≤ n) × ((at ≡ first + step * s)
+    × ((length owners ≡ 10) × (take s owners ≡ from (λ k. fromLe (part bytes (first + step * k) 8)) 0 s)))
 
 abbrev μ-loop : tie.MeasureT-loop
 μ-loop bytes first step n owners₀ at₀ s₀ owners at s = n - s
@@ -24,7 +25,8 @@ within c =
     let at = c .before in
     let start = at .before .before in
     rw (at .loop .inv .1 .0)
-    (step-within (start .args .first) (start .args .step) (at .loop .s) (start .args .n) (length (start .args .bytes .now)) (c .loop-test .taken) (start .pre .1 .1))
+    (step-within (start .args .first) (start .args .step) (at .loop .s) (start .args .n) (length (start .args .bytes .now))
+    (c .loop-test .taken) (start .pre .1 .1))
 
 loop-holds : tie.Need-loop-holds Inv-loop μ-loop
 unfolding from
@@ -57,8 +59,10 @@ loop-again c =
         omega (arith, mul-suc (start .args .step) (at .loop .s), ap (λ (k : ℕ). start .args .step * k) (add-one (at .loop .s))),
         (
           simp length-set (at .loop .inv .1 .1 .0),
-          owners-next (λ k. fromLe (part (start .args .bytes .now) (start .args .first + start .args .step * k) 8)) (at .loop .owners) (at .loop .s) (c .load64 .result)
-              (omega arith) (at .loop .inv .1 .1 .1) (c .load64 .ensures ∙ ap (λ (k : ℕ). fromLe (part (start .args .bytes .now) k 8)) (at .loop .inv .1 .0)),
+          owners-next (λ k. fromLe (part (start .args .bytes .now) (start .args .first + start .args .step * k) 8)) (at .loop .owners)
+              (at .loop .s) (c .load64 .result)
+              (omega arith) (at .loop .inv .1 .1 .1)
+              (c .load64 .ensures ∙ ap (λ (k : ℕ). fromLe (part (start .args .bytes .now) k 8)) (at .loop .inv .1 .0)),
         ),
       ),
     )

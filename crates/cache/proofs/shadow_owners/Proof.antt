@@ -29,8 +29,10 @@ returns : tie.Need-returns
 returns c =
     let cell = c .before .before in
     let a = cell .before .before .args in
-    owners-are (λ s. fromLe (part (a .array .now) (72 * cell .shadow-cell .result + 72 * s) 8)) (shadowOwner (a .h) (a .array .now)) (a .h) (c .before .slots .result)
-    (c .owners-at .result) (c .before .slots .ensures) (λ s. shadow-step (a .h) (a .array .now) (cell .shadow-cell .result) s (cell .shadow-cell .ensures))
+    owners-are (λ s. fromLe (part (a .array .now) (72 * cell .shadow-cell .result + 72 * s) 8)) (shadowOwner (a .h) (a .array .now)) (a .h)
+    (c .before .slots .result)
+    (c .owners-at .result) (c .before .slots .ensures)
+    (λ s. shadow-step (a .h) (a .array .now) (cell .shadow-cell .result) s (cell .shadow-cell .ensures))
     (c .owners-at .ensures)
 
 pub shadow-owners-spec : {M : Type 1} → statement M

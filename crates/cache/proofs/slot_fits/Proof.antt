@@ -16,7 +16,8 @@ dirty-requires c κs = search needs
 returns : tie.Need-returns
 returns c =
     let a = c .before .before .before .before .args in
-    fits-empty (a .l) (a .nodes) (a .cache .now) (a .s) (c .before .before .owner .result) (c .before .dirty .result) (c .before .before .owner .ensures)
+    fits-empty (a .l) (a .nodes) (a .cache .now) (a .s) (c .before .before .owner .result) (c .before .dirty .result)
+    (c .before .before .owner .ensures)
     (c .before .dirty .ensures) (c .if1 .taken)
 
 returns-2 : tie.Need-returns-2

@@ -36,7 +36,8 @@ turn c b e =
     let at = c .before .before in
     let a = at .before .before .args in
     at .loop .inv .1
-    ∙ fit-turn (a .l) (a .nodes) (a .cache .now) (a .first) (a .n) (at .loop .k) b (c .before .loop-test .taken) (sym e ∙ c .slot-fits .ensures)
+    ∙ fit-turn (a .l) (a .nodes) (a .cache .now) (a .first) (a .n) (at .loop .k) b (c .before .loop-test .taken)
+    (sym e ∙ c .slot-fits .ensures)
 
 returns : tie.Need-returns Inv-loop μ-loop
 returns c = sym (turn (c .before) false (not-true (c .before .slot-fits .result) (c .if1 .taken)))

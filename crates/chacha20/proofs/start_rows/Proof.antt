@@ -24,7 +24,8 @@ returns : tie.Need-returns
 unfolding number wordsOf
 returns c =
     let start = c .before .before .before .before .before in
-    (λ i. flat (c .before .before .load-row .ensures i ∷ c .before .load-row2 .ensures i ∷ c .load-row3 .ensures i ∷ start .args .last ∷ []))
+    (λ i. flat (c .before .before .load-row .ensures i ∷ c .before .load-row2 .ensures i ∷ c .load-row3 .ensures i ∷ start .args .last
+    ∷ []))
     ∙ start-flat (start .args .key .now) (start .args .last) (search needs)
 
 pub start-rows-spec : {M : Type 1} → statement M

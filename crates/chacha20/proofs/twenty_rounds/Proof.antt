@@ -29,7 +29,11 @@ loop-less : tie.Need-loop-less Inv-loop μ-loop
 loop-less c = omega arith
 
 loop-again : tie.Need-loop-again Inv-loop μ-loop
-loop-again c = (omega arith, c .double-round .ensures ∙ next (c .before .before .loop .i) (flat (c .before .before .before .args .s)) (c .before .before .loop .inv .1))
+loop-again c = (
+  omega arith,
+  c .double-round .ensures ∙ next (c .before .before .loop .i) (flat (c .before .before .before .args .s))
+      (c .before .before .loop .inv .1),
+)
 
 returns : tie.Need-returns Inv-loop μ-loop
 returns c =

@@ -46,7 +46,8 @@ returns-2 c =
     let n = c .before .before .before in
     let k = n .before .before .before .before .args .control .now in
     c .cells-below .ensures
-    ∙ ap₂ (λ (bound m : ℕ). inMap bound (places k 24 m)) (c .before .cells .ensures ∙ ap cells (c .before .before .depth .ensures)) (n .count .ensures)
+    ∙ ap₂ (λ (bound m : ℕ). inMap bound (places k 24 m)) (c .before .cells .ensures ∙ ap cells (c .before .before .depth .ensures))
+    (n .count .ensures)
     ∙ valid-cells k (headed (n .before))
 
 pub valid-spec : {M : Type 1} → statement M

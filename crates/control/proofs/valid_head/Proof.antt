@@ -62,7 +62,8 @@ returns-5 c =
     let s = c .before .before .before .before in
     let f = s .before .before in
     let m = f .before .before in
-    depth-high (m .before .before .before .before .before .args .control .now) (right-mark m) (f .if2 .left) (s .if3 .left) (omega (arith, c .if5 .taken))
+    depth-high (m .before .before .before .before .before .args .control .now) (right-mark m) (f .if2 .left) (s .if3 .left)
+    (omega (arith, c .if5 .taken))
 
 shared-slice-read-result : tie.Need-shared-slice-read-result
 shared-slice-read-result c = search needs
@@ -73,7 +74,8 @@ returns-6 c =
     let s = d .before .before .before .before in
     let f = s .before .before in
     let m = f .before .before in
-    right-depth (m .before .before .before .before .before .args .control .now) (right-mark m) (f .if2 .left) (s .if3 .left) (d .before .before .if4 .left) (d .if5 .left)
+    right-depth (m .before .before .before .before .before .args .control .now) (right-mark m) (f .if2 .left) (s .if3 .left)
+    (d .before .before .if4 .left) (d .if5 .left)
 
 pub valid-head-spec : {M : Type 1} → statement M
 valid-head-spec =

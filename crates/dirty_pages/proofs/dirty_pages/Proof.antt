@@ -42,7 +42,8 @@ returns-2 c =
     let spare = c .before .before in
     let pages = spare .before .before .before .before in
     listed _ _ _ _ (pages .put-pages .result) (none (pages .before .before)) (pages .put-pages .ensures .0)
-    (spare .put-spare .ensures ∙ ap (λ (l : List ℕ). put l (8 * pages .put-pages .result) (replicate (32 - 8 * pages .put-pages .result) 255)) (pages .put-pages .ensures .1))
+    (spare .put-spare .ensures ∙ ap (λ (l : List ℕ). put l (8 * pages .put-pages .result)
+    (replicate (32 - 8 * pages .put-pages .result) 255)) (pages .put-pages .ensures .1))
 
 pub dirty-pages-spec : {M : Type 1} → statement M
 dirty-pages-spec =

@@ -51,7 +51,8 @@ loop-again c =
     let now = c .before .dirty .ensures in (
       omega arith,
       ⊎-elim
-          (λ w. written-dirty (at .loop .inv .1) (sym now ∙ w .0 .taken) (c .if1 .out) (c .if1 .n) _ (w .2 .ensures) (w .6 ∙ w .3 .ensures) (w .7) (omega arith) (omega arith))
+          (λ w. written-dirty (at .loop .inv .1) (sym now ∙ w .0 .taken) (c .if1 .out) (c .if1 .n) _ (w .2 .ensures) (w .6 ∙ w .3 .ensures)
+          (w .7) (omega arith) (omega arith))
           (λ w. written-clean (at .loop .inv .1) (λ e. w .0 .left (now ∙ e)) (c .if1 .out) (c .if1 .n) (w .1) (w .2))
           (c .if1 .came),
     )
@@ -63,7 +64,8 @@ returns : tie.Need-returns Inv-loop μ-loop
 returns c =
     let at = c .before .before .before .before .args in
     let all : c .before .loop .s ≡ 4 = omega arith in
-    let w = subst (λ (s : ℕ). Written (at .cache .now) (at .out .now) (c .before .loop .out) (c .before .loop .n) s) all (c .before .loop .inv .1) in
+    let w = subst (λ (s : ℕ). Written (at .cache .now) (at .out .now) (c .before .loop .out) (c .before .loop .n) s) all
+    (c .before .loop .inv .1) in
     (w .count, w .bytes)
 
 pub put-pages-spec : {M : Type 1} → statement M

@@ -31,8 +31,14 @@ loop-less c = omega arith
 
 loop-again : tie.Need-loop-again Inv-loop μ-loop
 loop-again c =
-    let at = c .before .before .before .before .before in
-    (omega arith, (omega arith, spare-next (at .loop .inv .1 .1) _ (at .loop .inv .0) (omega arith) (omega arith) (c .before .before .store64 .ensures)))
+    let at = c .before .before .before .before .before in (
+      omega arith,
+      (
+        omega arith,
+        spare-next (at .loop .inv .1 .1) _ (at .loop .inv .0) (omega arith) (omega arith)
+            (c .before .before .store64 .ensures),
+      ),
+    )
 
 same-length : tie.Need-same-length Inv-loop μ-loop
 same-length c = c .before .loop .inv .1 .1 .size

@@ -66,7 +66,8 @@ judge c b e =
     let at = c .before .before .before in
     let test = at .before .before in
     by-formed _ _ _ (test .before .before .if1 .left) (is-valid test) (c .before .before .if3 .left ∙ expected at) (c .before .if4 .left) b
-    (ap (λ (h : ℕ). formed h (test .before .before .before .before .before .before .args .cache .now)) (sym (at .before .depth .ensures)) ∙ sym (c .formed .ensures) ∙ e)
+    (ap (λ (h : ℕ). formed h (test .before .before .before .before .before .before .args .cache .now)) (sym (at .before .depth .ensures))
+    ∙ sym (c .formed .ensures) ∙ e)
 
 returns-5 : tie.Need-returns-5
 returns-5 c = judge (c .before) false (not-true (c .before .formed .result) (c .if5 .taken))

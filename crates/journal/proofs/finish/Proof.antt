@@ -62,7 +62,8 @@ store64-requires c κs = search needs
 abbrev begin : tie.After-store64 → tie.Start
 begin c = c .before .before .before .before .before .before .before .before .before .before .before .before .before .before .before .before
 
-rooted : (c : tie.After-store64) → Rooted (begin c .args .control .now) (media (begin c .args .array .now) (begin c .args .control .now)) (begin c .args .allowance)
+rooted : (c : tie.After-store64) → Rooted (begin c .args .control .now) (media (begin c .args .array .now) (begin c .args .control .now))
+    (begin c .args .allowance)
     (c .before .before .before .before .before .before .before .before .before .before .before .before .count .result)
     (c .before .before .before .before .before .before .before .store-cells .last .0) (c .store64 .last .0)
 rooted c =

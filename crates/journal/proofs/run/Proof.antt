@@ -33,7 +33,8 @@ add-result c = search needs
 abbrev begin : tie.After-commit → tie.Start
 begin c = c .before .before .before .before .before
 
-committed : (c : tie.After-commit) → let a = begin c .args in Committed (a .array .now) (a .control .now) (a .n) (a .root) (a .allowance) (c .commit .last .0)
+committed : (c : tie.After-commit) → let a = begin c .args in Committed (a .array .now) (a .control .now) (a .n) (a .root) (a .allowance)
+    (c .commit .last .0)
 committed c =
     let start = begin c in
     let a = start .args in
@@ -48,7 +49,8 @@ finish-requires c κs =
       commit .commit .kept .0 ∙ start .pre .0,
       (
         omega (arith, committed commit .counted, start .pre .1 .0 .1),
-        ap (inMap (length (start .args .array .now) / 72)) (committed commit .queued) ∙ start .pre .1 .1 (commit .before .before .if1 .left),
+        ap (inMap (length (start .args .array .now) / 72)) (committed commit .queued)
+            ∙ start .pre .1 .1 (commit .before .before .if1 .left),
       ),
     )
 

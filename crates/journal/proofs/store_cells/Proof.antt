@@ -39,7 +39,13 @@ inside : (c : tie.After-copy-arg Inv-loop μ-loop) → 72 * c .before .load64 .r
 inside c =
     let at = c .before .before .before in
     let start = at .before .before .before in
-    omega (arith, c .before .load64 .ensures, at .loop .inv .1 .1, in-map-at (length (start .args .array .now) / 72) (start .args .control .now) 24 (start .args .n) (at .loop .j) (start .pre .1 .1) (omega arith))
+    omega (
+      arith,
+      c .before .load64 .ensures,
+      at .loop .inv .1 .1,
+      in-map-at (length (start .args .array .now) / 72)
+          (start .args .control .now) 24 (start .args .n) (at .loop .j) (start .pre .1 .1) (omega arith),
+    )
 
 mul-copy : tie.Need-mul-copy Inv-loop μ-loop
 mul-copy c = omega (arith, inside c, c .before .before .before .loop .inv .1 .1)
@@ -65,8 +71,10 @@ loop-again c =
       (
         ap (λ (a : List ℕ). media a (start .control .now))
             (call .copy .ensures
-            ∙ ap (λ (x : ℕ). put (at .loop .array) (72 * x) (part (start .control .now) (24 + 80 * at .loop .j + 8) 72)) (call .before .before .load64 .ensures))
-            ∙ next-cell (media (start .array .now) (start .control .now)) (at .loop .array) (start .control .now) 24 (at .loop .j) (at .loop .inv .1 .0),
+            ∙ ap (λ (x : ℕ). put (at .loop .array) (72 * x) (part (start .control .now) (24 + 80 * at .loop .j + 8) 72))
+            (call .before .before .load64 .ensures))
+            ∙ next-cell (media (start .array .now) (start .control .now)) (at .loop .array) (start .control .now) 24 (at .loop .j)
+            (at .loop .inv .1 .0),
         call .copy .kept .0 ∙ at .loop .inv .1 .1,
       ),
     )

@@ -21,7 +21,12 @@ level-start-requires c κs = search needs
 add-result : tie.Need-add-result
 add-result c =
     let start = c .before .before in
-    omega (arith, start-small (c .level-start .ensures) (start .pre .1) (omega arith), shadow-small (c .before .shadow-cells .ensures) (omega (arith, start .pre .1)))
+    omega (
+      arith,
+      start-small (c .level-start .ensures) (start .pre .1) (omega arith),
+      shadow-small (c .before .shadow-cells .ensures)
+          (omega (arith, start .pre .1)),
+    )
 
 returns : tie.Need-returns
 returns c =

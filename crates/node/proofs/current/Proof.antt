@@ -11,13 +11,22 @@ use Rattle.node.proofs.current.Statement.{statement}
 use Rattle.node.proofs.current.Tie as tie
 
 holds-requires : tie.Need-holds-requires
-holds-requires c κs = let s = c .before .before in let n = slotted _ (s .args .cache .now) (s .args .l) (s .args .i) (s .pre .0 .flat) (s .pre .0 .cache) (s .pre .1) in (n .level, (n .word, n .slot))
+holds-requires c κs =
+    let s = c .before .before in
+    let n = slotted _ (s .args .cache .now) (s .args .l) (s .args .i) (s .pre .0 .flat) (s .pre .0 .cache) (s .pre .1) in
+    (n .level, (n .word, n .slot))
 
 slot-of-requires : tie.Need-slot-of-requires
-slot-of-requires c κs = let start = c .before .before .before .before in slotted _ (start .args .cache .now) (start .args .l) (start .args .i) (start .pre .0 .flat) (start .pre .0 .cache) (start .pre .1) .level
+slot-of-requires c κs =
+    let start = c .before .before .before .before in
+    slotted _ (start .args .cache .now) (start .args .l) (start .args .i) (start .pre .0 .flat) (start .pre .0 .cache)
+    (start .pre .1) .level
 
 in-slot-requires : tie.Need-in-slot-requires
-in-slot-requires c κs = let start = c .before .before .before .before .before in rw (c .slot-of .ensures) (slotted _ (start .args .cache .now) (start .args .l) (start .args .i) (start .pre .0 .flat) (start .pre .0 .cache) (start .pre .1) .slot)
+in-slot-requires c κs =
+    let start = c .before .before .before .before .before in
+    rw (c .slot-of .ensures) (slotted _ (start .args .cache .now) (start .args .l) (start .args .i) (start .pre .0 .flat)
+    (start .pre .0 .cache) (start .pre .1) .slot)
 
 returns : tie.Need-returns
 returns c =
@@ -30,7 +39,9 @@ node-cell-requires : tie.Need-node-cell-requires
 node-cell-requires c κs = let start = c .before .before .before .before in (start .pre .0 .deep, (start .pre .0 .flat, start .pre .1))
 
 in-cell-requires : tie.Need-in-cell-requires
-in-cell-requires c κs = let start = c .before .before .before .before .before in rw (c .node-cell .ensures) (cell-room _ (start .args .array .now) _ _ (start .pre .0 .array) (start .pre .1))
+in-cell-requires c κs =
+    let start = c .before .before .before .before .before in
+    rw (c .node-cell .ensures) (cell-room _ (start .args .array .now) _ _ (start .pre .0 .array) (start .pre .1))
 
 returns-2 : tie.Need-returns-2
 returns-2 c =

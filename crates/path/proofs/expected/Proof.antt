@@ -13,7 +13,8 @@ use Rattle.path.proofs.expected.Statement.{statement}
 use Rattle.path.proofs.expected.Tie as tie
 
 returns : tie.Need-returns
-returns c = let a = c .before .before .before .args in expected-top (a .h) (a .array .now) (a .cache .now) (a .root) (a .p) (a .l) (c .if1 .taken)
+returns c =
+    let a = c .before .before .before .args in expected-top (a .h) (a .array .now) (a .cache .now) (a .root) (a .p) (a .l) (c .if1 .taken)
 
 add-current : tie.Need-add-current
 add-current c = search needs
@@ -31,7 +32,8 @@ start c = c .before .before .before .before
 parent : (c : tie.After-on-path) → InMap (start c .args .h) (node (start c .args .l + 1) (c .on-path .result))
 parent c =
     let s = start c in
-    subst (λ (i : ℕ). InMap (s .args .h) (node (s .args .l + 1) i)) (sym (c .on-path .ensures)) (path-node (s .args .h) (s .args .p) (s .args .l + 1) (s .pre .1 .0) (omega (arith, s .pre .1 .1)))
+    subst (λ (i : ℕ). InMap (s .args .h) (node (s .args .l + 1) i)) (sym (c .on-path .ensures))
+    (path-node (s .args .h) (s .args .p) (s .args .l + 1) (s .pre .1 .0) (omega (arith, s .pre .1 .1)))
 
 current-requires : tie.Need-current-requires
 current-requires c κs = (start c .pre .0, parent c)
@@ -52,7 +54,8 @@ returns-2 c =
     let at = c .before .before .before in
     let a = start at .args in
     c .load64 .ensures
-    ∙ expected-child (a .h) (a .array .now) (a .cache .now) (a .root) (a .p) (a .l) (at .before .if1 .left) _ (at .on-path .result) (c .before .on-path2 .result)
+    ∙ expected-child (a .h) (a .array .now) (a .cache .now) (a .root) (a .p) (a .l) (at .before .if1 .left) _ (at .on-path .result)
+    (c .before .on-path2 .result)
     (at .on-path .ensures) (c .before .before .current .ensures) (c .before .on-path2 .ensures)
 
 pub expected-spec : {M : Type 1} → statement M

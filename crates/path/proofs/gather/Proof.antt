@@ -15,7 +15,8 @@ use Rattle.path.proofs.gather.Statement.{statement}
 use Rattle.path.proofs.gather.Tie as tie
 
 abbrev Inv-loop : tie.InvT-loop
-Inv-loop h cache p control₀ allowance k₀ n₀ control k n = Gathering h cache p allowance control₀ control k n × (length control ≡ length control₀)
+Inv-loop h cache p control₀ allowance k₀ n₀ control k n =
+    Gathering h cache p allowance control₀ control k n × (length control ≡ length control₀)
 
 abbrev μ-loop : tie.MeasureT-loop
 μ-loop h cache p control₀ allowance k₀ n₀ control k n = n
@@ -39,9 +40,11 @@ inside : (c : tie.After-on-path Inv-loop μ-loop) → InMap (start c .args .h) (
 inside c =
     let s = start c in
     subst (λ (i : ℕ). InMap (s .args .h) (node (c .before .before .loop .n - 1) i)) (sym (c .on-path .ensures))
-    (path-node (s .args .h) (s .args .p) (c .before .before .loop .n - 1) (s .pre .0 .1 .1 .1 .1) (omega (arith, c .before .before .loop .inv .0 .levels)))
+    (path-node (s .args .h) (s .args .p) (c .before .before .loop .n - 1) (s .pre .0 .1 .1 .1 .1)
+    (omega (arith, c .before .before .loop .inv .0 .levels)))
 
-found : (c : tie.After-on-path Inv-loop μ-loop) → Slotted (start c .args .h) (c .before .before .loop .n - 1) (c .on-path .result) (start c .args .cache .now)
+found : (c : tie.After-on-path Inv-loop μ-loop)
+    → Slotted (start c .args .h) (c .before .before .loop .n - 1) (c .on-path .result) (start c .args .cache .now)
 found c = let s = start c in slotted _ _ _ _ (s .pre .0 .1 .0) (s .pre .0 .1 .1 .0) (inside c)
 
 holds-requires : tie.Need-holds-requires Inv-loop μ-loop
@@ -57,9 +60,11 @@ gather-node-requires c κs =
         sym (test .holds .ensures) ∙ not-true _ (c .before .if1 .taken),
         (
           at .before .before .loop .inv .1 ∙ s .pre .1 .0,
-          subst (λ (i : ℕ). at .before .before .loop .k + length (nodeCells (s .args .h) (s .args .cache .now) (at .before .before .loop .n - 1) i) ≤ 8)
+          subst (λ (i : ℕ). at .before .before .loop .k + length
+              (nodeCells (s .args .h) (s .args .cache .now) (at .before .before .loop .n - 1) i) ≤ 8)
               (sym (at .on-path .ensures))
-              (gathering-room (s .args .h) (s .args .cache .now) (s .args .p) (s .args .allowance) (s .args .control .now) (at .before .before .loop .inv .0) (omega arith) (s .pre .1 .1)),
+              (gathering-room (s .args .h) (s .args .cache .now) (s .args .p) (s .args .allowance) (s .args .control .now)
+              (at .before .before .loop .inv .0) (omega arith) (s .pre .1 .1)),
         ),
       ),
     )
@@ -72,8 +77,10 @@ loop-again c =
     let call = c .before .before in
     let at = call .before .before .before .before in
     let s = start at in (
-      gathering-more (s .args .h) (s .args .cache .now) (s .args .p) (s .args .allowance) (s .args .control .now) (at .before .before .loop .inv .0) (omega arith) (call .gather-node .last .1 .1 .1 .1 .0)
-          (call .gather-node .result) (at .on-path .result) (at .on-path .ensures) (call .gather-node .ensures .0) (call .gather-node .ensures .1),
+      gathering-more (s .args .h) (s .args .cache .now) (s .args .p) (s .args .allowance) (s .args .control .now)
+          (at .before .before .loop .inv .0) (omega arith) (call .gather-node .last .1 .1 .1 .1 .0)
+          (call .gather-node .result) (at .on-path .result) (at .on-path .ensures) (call .gather-node .ensures .0)
+          (call .gather-node .ensures .1),
       call .gather-node .kept .1 .1 .1 .1 .0 ∙ at .before .before .loop .inv .1,
     )
 
@@ -84,8 +91,10 @@ loop-again-2 : tie.Need-loop-again-2 Inv-loop μ-loop
 loop-again-2 c =
     let at = c .before .before in
     let s = start at in (
-      gathering-held (s .args .h) (s .args .cache .now) (s .args .p) (s .args .allowance) (s .args .control .now) (at .before .before .loop .inv .0) (omega arith)
-          (ap (holds (s .args .cache .now) (at .before .before .loop .n - 1)) (sym (at .on-path .ensures)) ∙ sym (c .before .holds .ensures) ∙ not-false _ (c .if1 .left)),
+      gathering-held (s .args .h) (s .args .cache .now) (s .args .p) (s .args .allowance) (s .args .control .now)
+          (at .before .before .loop .inv .0) (omega arith)
+          (ap (holds (s .args .cache .now) (at .before .before .loop .n - 1)) (sym (at .on-path .ensures)) ∙ sym (c .before .holds .ensures)
+          ∙ not-false _ (c .if1 .left)),
       at .before .before .loop .inv .1,
     )
 

@@ -33,7 +33,12 @@ shadowed : (c : tie.After-slot-of) → InMap (start c .args .h) (shadow (c .slot
 unfolding InMap
 shadowed c =
     let s = start c in
-    omega (arith, c .slot-of .ensures, slot-within (s .args .h) (s .args .l) (s .args .i) (in-map-node (s .args .h) (s .args .l) (s .args .i) (s .pre .0 .1 .1 .1 .1) .0))
+    omega (
+      arith,
+      c .slot-of .ensures,
+      slot-within (s .args .h) (s .args .l) (s .args .i)
+          (in-map-node (s .args .h) (s .args .l) (s .args .i) (s .pre .0 .1 .1 .1 .1) .0),
+    )
 
 dirty-requires : tie.Need-dirty-requires
 dirty-requires c κs = room c
@@ -69,26 +74,33 @@ returns c =
     let test = call .before .before .before in
     let at = test .before .before in
     let s = start at in
-    let g = gathered-clean (s .args .h) (s .args .cache .now) (s .args .l) (s .args .i) (s .pre .1 .0) (s .args .allowance) (s .args .control .now) (s .args .n) (at .slot-of .result) (at .slot-of .ensures)
-    (λ e. test .if1 .taken (test .before .dirty .ensures ∙ e)) (call .put-shadow .last .0) (call .before .shadow-cell .result) (call .before .shadow-cell .ensures) (call .put-shadow .ensures) in
+    let g = gathered-clean (s .args .h) (s .args .cache .now) (s .args .l) (s .args .i) (s .pre .1 .0) (s .args .allowance)
+    (s .args .control .now) (s .args .n) (at .slot-of .result) (at .slot-of .ensures)
+    (λ e. test .if1 .taken (test .before .dirty .ensures ∙ e)) (call .put-shadow .last .0) (call .before .shadow-cell .result)
+    (call .before .shadow-cell .ensures) (call .put-shadow .ensures) in
     (g .cells, g .number)
 
 owner-requires : tie.Need-owner-requires
 owner-requires c κs = room (c .before .before)
 
 -- the slot is dirty: its owner is a node, and two cells come
-former : (c : tie.After-owner) → (0 < c .owner .result) × InMap (start (c .before .before .before) .args .h) (node (start (c .before .before .before) .args .l) (c .owner .result - 1))
+former : (c : tie.After-owner) → (0 < c .owner .result)
+    × InMap (start (c .before .before .before) .args .h) (node (start (c .before .before .before) .args .l) (c .owner .result - 1))
 former c =
     let at = c .before .before .before in
     let s = start at in
     let a = s .args in
-    let e : c .owner .result ≡ owner (a .cache .now) (slotOf (a .l) (a .i)) = c .owner .ensures ∙ ap (owner (a .cache .now)) (at .slot-of .ensures) in
+    let e : c .owner .result ≡ owner (a .cache .now) (slotOf (a .l) (a .i)) = c .owner .ensures
+    ∙ ap (owner (a .cache .now)) (at .slot-of .ensures) in
     let d : dirty (a .cache .now) (slotOf (a .l) (a .i)) ≡ 1 =
     ap (dirty (a .cache .now)) (sym (at .slot-of .ensures)) ∙ sym (c .before .before .dirty .ensures) ∙ c .before .if1 .left in
     subst (λ (o : ℕ). (0 < o) × InMap (a .h) (node (a .l) (o - 1))) (sym e)
-    (dirty-owner (a .h) (a .cache .now) (a .l) (a .i) (formed-facts (a .h) (a .cache .now) (s .pre .0 .1 .1 .1 .0)) (in-map-node (a .h) (a .l) (a .i) (s .pre .0 .1 .1 .1 .1) .0) d)
+    (dirty-owner (a .h) (a .cache .now) (a .l) (a .i) (formed-facts (a .h) (a .cache .now) (s .pre .0 .1 .1 .1 .0))
+    (in-map-node (a .h) (a .l) (a .i) (s .pre .0 .1 .1 .1 .1) .0) d)
 
-two : (c : tie.Else1) → length (nodeCells (start (c .before .before) .args .h) (start (c .before .before) .args .cache .now) (start (c .before .before) .args .l) (start (c .before .before) .args .i)) ≡ 2
+two : (c : tie.Else1) → length
+    (nodeCells (start (c .before .before) .args .h) (start (c .before .before) .args .cache .now) (start (c .before .before) .args .l)
+    (start (c .before .before) .args .i)) ≡ 2
 two c =
     let at = c .before .before in
     let s = start at in
@@ -102,7 +114,8 @@ in-slot-requires : tie.Need-in-slot-requires
 in-slot-requires c κs = room (c .before .before .before)
 
 node-cell-requires : tie.Need-node-cell-requires
-node-cell-requires c κs = let at = c .before .before in let s = start (at .before .before .before) in (s .pre .0 .0, (s .pre .0 .1 .0, former at .1))
+node-cell-requires c κs =
+    let at = c .before .before in let s = start (at .before .before .before) in (s .pre .0 .0, (s .pre .0 .1 .0, former at .1))
 
 put-cell-requires : tie.Need-put-cell-requires
 put-cell-requires c κs =
@@ -121,10 +134,13 @@ add-put-shadow-2 : tie.Need-add-put-shadow-2
 add-put-shadow-2 c = search needs
 
 shadow-cell-requires-2 : tie.Need-shadow-cell-requires-2
-shadow-cell-requires-2 c κs = let at = c .before .before .before .before .before .before .before .before .before .before in (start at .pre .0 .0, (start at .pre .0 .1 .0, shadowed at))
+shadow-cell-requires-2 c κs =
+    let at = c .before .before .before .before .before .before .before .before .before .before in
+    (start at .pre .0 .0, (start at .pre .0 .1 .0, shadowed at))
 
 add-put-shadow-3 : tie.Need-add-put-shadow-3
-add-put-shadow-3 c = omega (arith, placed (start (c .before .before .before .before .before .before .before .before .before .before .before)) .word)
+add-put-shadow-3 c =
+    omega (arith, placed (start (c .before .before .before .before .before .before .before .before .before .before .before)) .word)
 
 put-shadow-requires-2 : tie.Need-put-shadow-requires-2
 put-shadow-requires-2 c κs =
@@ -147,9 +163,12 @@ returns-2 c =
     let test = slot .before .before in
     let at = test .before .before in
     let s = start at in
-    let g = gathered-dirty (s .args .h) (s .args .cache .now) (s .args .l) (s .args .i) (s .pre .1 .0) (s .args .allowance) (s .args .control .now) (s .args .n) (at .slot-of .result) (at .slot-of .ensures)
-    (sym (test .before .dirty .ensures) ∙ test .if1 .left) (stored .put-cell .last .0) (call .put-shadow2 .last .0) (slot .before .owner .result) (stored .before .node-cell .result)
-    (call .before .shadow-cell2 .result) (slot .in-slot .result .now) (slot .before .owner .ensures) (slot .in-slot .ensures) (stored .before .node-cell .ensures)
+    let g = gathered-dirty (s .args .h) (s .args .cache .now) (s .args .l) (s .args .i) (s .pre .1 .0) (s .args .allowance)
+    (s .args .control .now) (s .args .n) (at .slot-of .result) (at .slot-of .ensures)
+    (sym (test .before .dirty .ensures) ∙ test .if1 .left) (stored .put-cell .last .0) (call .put-shadow2 .last .0)
+    (slot .before .owner .result) (stored .before .node-cell .result)
+    (call .before .shadow-cell2 .result) (slot .in-slot .result .now) (slot .before .owner .ensures) (slot .in-slot .ensures)
+    (stored .before .node-cell .ensures)
     (call .before .shadow-cell2 .ensures) (stored .put-cell .ensures) (call .put-shadow2 .ensures) in
     (g .cells, g .number)
 

@@ -24,15 +24,20 @@ start c = c .before .before .before .before
 inside : (c : tie.After-on-path) → InMap (start c .args .h) (node (start c .args .l) (c .on-path .result))
 inside c =
     let s = start c in
-    subst (λ (i : ℕ). InMap (s .args .h) (node (s .args .l) i)) (sym (c .on-path .ensures)) (path-node (s .args .h) (s .args .p) (s .args .l) (s .pre .1 .1 .0) (s .pre .1 .1 .1))
+    subst (λ (i : ℕ). InMap (s .args .h) (node (s .args .l) i)) (sym (c .on-path .ensures))
+    (path-node (s .args .h) (s .args .p) (s .args .l) (s .pre .1 .1 .0) (s .pre .1 .1 .1))
 
 node-cell-requires : tie.Need-node-cell-requires
 node-cell-requires c κs = let s = start c in (s .pre .1 .0 .deep, (s .pre .1 .0 .flat, inside c))
 
 in-cell-requires : tie.Need-in-cell-requires
-in-cell-requires c κs = let s = start (c .before) in rw (c .node-cell .ensures) (cell-room _ (s .args .array .now) _ _ (s .pre .1 .0 .array) (inside (c .before)))
+in-cell-requires c κs =
+    let s = start (c .before) in
+    rw (c .node-cell .ensures) (cell-room _ (s .args .array .now) _ _ (s .pre .1 .0 .array) (inside (c .before)))
 
-found : (c : tie.After-in-cell) → c .in-cell .result .now ≡ cellContent (start (c .before .before) .args .array .now) (cellOf (start (c .before .before) .args .h) (node (start (c .before .before) .args .l) (c .before .before .on-path .result)))
+found : (c : tie.After-in-cell) → c .in-cell .result .now
+    ≡ cellContent (start (c .before .before) .args .array .now)
+    (cellOf (start (c .before .before) .args .h) (node (start (c .before .before) .args .l) (c .before .before .on-path .result)))
 found c = c .in-cell .ensures ∙ ap (cellContent (start (c .before .before) .args .array .now)) (c .before .node-cell .ensures)
 
 node-tag-requires : tie.Need-node-tag-requires
@@ -52,7 +57,8 @@ returns c =
     ap₂ eqb
     (tagged .node-tag .ensures
     ∙ ap₂ {C = ℕ} (λ (b : List ℕ) (i : ℕ). nodeTag (a .keys .now) b (a .l) i)
-    (found (tagged .before) ∙ ap (λ (i : ℕ). cellContent (a .array .now) (cellOf (a .h) (node (a .l) i))) (at .on-path .ensures)) (at .on-path .ensures))
+    (found (tagged .before) ∙ ap (λ (i : ℕ). cellContent (a .array .now) (cellOf (a .h) (node (a .l) i))) (at .on-path .ensures))
+    (at .on-path .ensures))
     (c .expected .ensures)
 
 pub genuine-spec : {M : Type 1} → statement M

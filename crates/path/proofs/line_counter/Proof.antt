@@ -30,7 +30,9 @@ current-requires c κs = (start c .pre .0, inside c)
 size : (c : tie.After-current) → length (c .current .result .now) ≡ 64
 size c = ap length (c .current .ensures) ∙ current-length 0 _ (start (c .before) .pre .0) (inside (c .before))
 
-block : (c : tie.After-current) → c .current .result .now ≡ current (start (c .before) .args .h) (start (c .before) .args .array .now) (start (c .before) .args .cache .now) 0 (pageOf (start (c .before) .args .line))
+block : (c : tie.After-current) → c .current .result .now
+    ≡ current (start (c .before) .args .h) (start (c .before) .args .array .now) (start (c .before) .args .cache .now) 0
+    (pageOf (start (c .before) .args .line))
 block c =
     let a = start (c .before) .args in
     c .current .ensures ∙ ap (current (a .h) (a .array .now) (a .cache .now) 0) (c .before .page-of .ensures)

@@ -42,7 +42,8 @@ inside c =
     subst (λ (i : ℕ). InMap (s .args .h) (node (c .before .before .loop .n - 1) i)) (sym (c .on-path .ensures))
     (path-node (s .args .h) (s .args .p) (c .before .before .loop .n - 1) (s .pre .1) (omega (arith, c .before .before .loop .inv .levels)))
 
-found : (c : tie.After-on-path Inv-loop μ-loop) → Slotted (start c .args .h) (c .before .before .loop .n - 1) (c .on-path .result) (c .before .before .loop .cache)
+found : (c : tie.After-on-path Inv-loop μ-loop)
+    → Slotted (start c .args .h) (c .before .before .loop .n - 1) (c .on-path .result) (c .before .before .loop .cache)
 found c = let s = start c in slotted _ _ _ _ (s .pre .0 .flat) (c .before .before .loop .inv .size ∙ s .pre .0 .cache) (inside c)
 
 holds-requires : tie.Need-holds-requires Inv-loop μ-loop
@@ -50,15 +51,19 @@ holds-requires c κs = let n = found (c .before) in (n .level, (n .word, n .slot
 
 -- what the test of the cache found
 held : (c : tie.After-holds Inv-loop μ-loop) (b : Bool) → c .holds .result ≡ b
-    → holds (c .before .before .before .before .loop .cache) (c .before .before .before .before .loop .n - 1) (onPath (start (c .before .before) .args .p) (c .before .before .before .before .loop .n - 1)) ≡ b
+    → holds (c .before .before .before .before .loop .cache) (c .before .before .before .before .loop .n - 1)
+    (onPath (start (c .before .before) .args .p) (c .before .before .before .before .loop .n - 1)) ≡ b
 held c b e =
-    ap (holds (c .before .before .before .before .loop .cache) (c .before .before .before .before .loop .n - 1)) (sym (c .before .before .on-path .ensures)) ∙ sym (c .holds .ensures) ∙ e
+    ap (holds (c .before .before .before .before .loop .cache) (c .before .before .before .before .loop .n - 1))
+    (sym (c .before .before .on-path .ensures)) ∙ sym (c .holds .ensures) ∙ e
 
 node-cell-requires : tie.Need-node-cell-requires Inv-loop μ-loop
 node-cell-requires c κs = let at = c .before .before .before in let s = start at in (s .pre .0 .deep, (s .pre .0 .flat, inside at))
 
 in-cell-requires : tie.Need-in-cell-requires Inv-loop μ-loop
-in-cell-requires c κs = let at = c .before .before .before .before in omega (arith, c .node-cell .ensures, cell-room _ (start at .args .array .now) _ _ (start at .pre .0 .array) (inside at))
+in-cell-requires c κs =
+    let at = c .before .before .before .before in
+    omega (arith, c .node-cell .ensures, cell-room _ (start at .args .array .now) _ _ (start at .pre .0 .array) (inside at))
 
 slot-of-requires : tie.Need-slot-of-requires Inv-loop μ-loop
 slot-of-requires c κs = found (c .before .before .before .before .before .before) .level
@@ -72,7 +77,8 @@ put-slot-requires c κs =
     let at = cell .before .before .before .before .before in
     let s = start at in (
       omega (arith, c .slot-of .ensures, found at .slot),
-      ap length (cell .in-cell .ensures ∙ ap (cellContent (s .args .array .now)) (cell .before .node-cell .ensures)) ∙ cell-length (s .args .h) (s .args .array .now) _ (s .pre .0 .array) (inside at),
+      ap length (cell .in-cell .ensures ∙ ap (cellContent (s .args .array .now)) (cell .before .node-cell .ensures))
+          ∙ cell-length (s .args .h) (s .args .array .now) _ (s .pre .0 .array) (inside at),
     )
 
 loop-less : tie.Need-loop-less Inv-loop μ-loop
@@ -85,9 +91,12 @@ loop-again c =
     let test = cell .before .before .before in
     let at = test .before .before in
     let s = start at in
-    loading-more (s .args .h) (s .args .array .now) (s .args .p) (s .args .cache .now) (at .before .before .loop .inv) (omega arith) (held test false (not-true _ (cell .before .before .if1 .taken)))
-    (call .put-slot .last .0) (at .on-path .result) (call .before .slot-of .result) (cell .before .node-cell .result) (cell .in-cell .result .now) (at .on-path .ensures)
-    (call .before .slot-of .ensures) (cell .before .node-cell .ensures) (cell .in-cell .ensures) (call .put-slot .ensures) (call .put-slot .kept .0)
+    loading-more (s .args .h) (s .args .array .now) (s .args .p) (s .args .cache .now) (at .before .before .loop .inv) (omega arith)
+    (held test false (not-true _ (cell .before .before .if1 .taken)))
+    (call .put-slot .last .0) (at .on-path .result) (call .before .slot-of .result) (cell .before .node-cell .result)
+    (cell .in-cell .result .now) (at .on-path .ensures)
+    (call .before .slot-of .ensures) (cell .before .node-cell .ensures) (cell .in-cell .ensures) (call .put-slot .ensures)
+    (call .put-slot .kept .0)
 
 loop-less-2 : tie.Need-loop-less-2 Inv-loop μ-loop
 loop-less-2 c = omega arith
@@ -96,7 +105,8 @@ loop-again-2 : tie.Need-loop-again-2 Inv-loop μ-loop
 loop-again-2 c =
     let at = c .before .before .before in
     let s = start at in
-    loading-held (s .args .h) (s .args .array .now) (s .args .p) (s .args .cache .now) (at .before .before .loop .inv) (omega arith) (held (c .before) true (not-false _ (c .if1 .left)))
+    loading-held (s .args .h) (s .args .array .now) (s .args .p) (s .args .cache .now) (at .before .before .loop .inv) (omega arith)
+    (held (c .before) true (not-false _ (c .if1 .left)))
 
 same-length : tie.Need-same-length Inv-loop μ-loop
 same-length c = c .before .loop .inv .size

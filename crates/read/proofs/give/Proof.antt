@@ -30,7 +30,8 @@ returns c =
     let t = eq-eqb (a .minor) 0 (test .if1 .taken) in (
       ap (λ (b : Bool). cond b (Blank (a .stores)) (Done (a .stores) 0)) (sym t),
       stored .zero .ensures ∙ put-all (a .out .now) (replicate 64 0) (sym (start .pre .1 .1 .1 .1))
-          ∙ ap (λ (b : Bool). cond b blankText (xorBytes (cellContent (a .array .now) (a .line)) (pad (a .keys .now) (a .line) (a .major) (a .minor)))) (sym t),
+          ∙ ap (λ (b : Bool). cond b blankText
+          (xorBytes (cellContent (a .array .now) (a .line)) (pad (a .keys .now) (a .line) (a .major) (a .minor)))) (sym t),
     )
 
 cast-apply : tie.Need-cast-apply
@@ -45,8 +46,14 @@ in-cell-requires c κs = search needs
 apply-requires : tie.Need-apply-requires
 apply-requires c κs =
     let cell = c .before in
-    let start = cell .before .before .before .before .before in
-    (start .pre .0, (ap length (cell .in-cell .ensures) ∙ cell-size (start .args .array .now) (start .args .line) (start .pre .1 .0), start .pre .1 .1 .1 .1))
+    let start = cell .before .before .before .before .before in (
+      start .pre .0,
+      (
+        ap length (cell .in-cell .ensures)
+            ∙ cell-size (start .args .array .now) (start .args .line) (start .pre .1 .0),
+        start .pre .1 .1 .1 .1,
+      ),
+    )
 
 same-length-2 : tie.Need-same-length-2
 same-length-2 c = search needs
@@ -60,7 +67,8 @@ returns-2 c =
     let t = ne-eqb (a .minor) 0 (test .if1 .left) in (
       ap (λ (b : Bool). cond b (Blank (a .stores)) (Done (a .stores) 0)) (sym t),
       call .apply .ensures ∙ ap (λ (b : List ℕ). xorBytes b (pad (a .keys .now) (a .line) (a .major) (a .minor))) (cell .in-cell .ensures)
-          ∙ ap (λ (b : Bool). cond b blankText (xorBytes (cellContent (a .array .now) (a .line)) (pad (a .keys .now) (a .line) (a .major) (a .minor)))) (sym t),
+          ∙ ap (λ (b : Bool). cond b blankText
+          (xorBytes (cellContent (a .array .now) (a .line)) (pad (a .keys .now) (a .line) (a .major) (a .minor)))) (sym t),
     )
 
 pub give-spec : {M : Type 1} → statement M

@@ -1,15 +1,13 @@
 -- `read::read` meets its contract. Assumes nothing.
-use mathlib.Core.Path.{_≡_, sym, ap, _∙_, subst}
-use Prim.Native.Nat.{ℕ, _≤_, _<_}
+use mathlib.Core.Path.{_≡_, sym, _∙_}
 use native.Mathlib.Omega.{arith}
 use borrow.Author.Needs.{needs}
 use borrow.Author.Tests.{not-true, not-false}
-use Rattle.memory_map.specs.Map.{arrayLength, lines}
-use Rattle.slot_map.specs.Slots.{cacheLength}
 use Rattle.control.specs.Control.{depth}
 use Rattle.cache.specs.Cache.{formed}
 use Rattle.calls.specs.Call.{Module, buffers}
-use Rattle.call_laws.proofs.Judged.{Entered, entry-passed, entry-refused, not-formed, is-formed, head-of}
+use Rattle.call_laws.proofs.Judged.{Entered, entry-passed, entry-refused, not-formed, is-formed}
+use Rattle.path.proofs.Ready.{sized-of, accepts, formed-as}
 use Rattle.read.proofs.Reading.{read-refused, read-accepted}
 use Rattle.read.proofs.read.Statement.{statement}
 use Rattle.read.proofs.read.Tie as tie
@@ -39,7 +37,8 @@ given c = let a = start c .args in buffers (a .array .now) (a .control .now) (a 
 returns : tie.Need-returns
 returns c =
     let a = start (c .before) .args in
-    read-refused (a .keys .now) (a .line) (a .allowance) (a .out .now) (a .array .now) (a .control .now) (a .cache .now) (c .before .entry .result)
+    read-refused (a .keys .now) (a .line) (a .allowance) (a .out .now) (a .array .now) (a .control .now) (a .cache .now)
+    (c .before .entry .result)
     (entry-refused (a .keys .now) (a .line) (a .out .now) (given (c .before)) (c .before .entry .ensures) (c .if1 .taken)) (c .if1 .taken)
 
 -- past it
@@ -49,20 +48,15 @@ entered c = entry-passed _ _ _ _ (sym (c .before .entry .ensures) ∙ c .if1 .le
 depth-requires : tie.Need-depth-requires
 depth-requires c κs = entered (c .before) .opening .record664
 
-deep : (c : tie.After-depth) → (1 ≤ c .depth .result) × (c .depth .result ≤ 3)
-deep c = let head = head-of _ _ (entered (c .before .before) .opening) in omega (arith, c .depth .ensures, head .deep, head .flat)
-
 formed-requires : tie.Need-formed-requires
 formed-requires c κs =
     let at = c .before in
-    let o = entered (at .before .before) .opening in
-    let h = deep at in
-    (h .0, (h .1, o .fits .cache ∙ ap cacheLength (sym (at .depth .ensures))))
+    let s = sized-of (entered (at .before .before)) (at .depth .ensures) in
+    (s .deep, (s .flat, s .cache))
 
-shaped : (c : tie.After-formed) → formed (depth (given (c .before .before .before .before .before) .control)) (given (c .before .before .before .before .before) .cache) ≡ c .formed .result
-shaped c =
-    let at = c .before .before in
-    ap (λ (h : ℕ). formed h (given (at .before .before .before) .cache)) (sym (at .depth .ensures)) ∙ sym (c .formed .ensures)
+shaped : (c : tie.After-formed)
+    → let m = given (c .before .before .before .before .before) in formed (depth (m .control)) (m .cache) ≡ c .formed .result
+shaped c = let at = c .before .before in formed-as (entered (at .before .before)) (at .depth .ensures) (c .formed .ensures)
 
 same-length-5 : tie.Need-same-length-5
 same-length-5 c = search needs
@@ -87,23 +81,8 @@ read-line-requires : tie.Need-read-line-requires
 read-line-requires c κs =
     let test = c .before .before .before .before in
     let at = test .before .before .before in
-    let e = entered (at .before .before) in
-    let h = deep at in (
-      e .opening .keys48,
-      (
-        e .opening .record664,
-        (
-          at .depth .ensures,
-          (
-            record { deep = h .0; flat = h .1; array = e .opening .fits .array ∙ ap arrayLength (sym (at .depth .ensures)); cache = e .opening .fits .cache ∙ ap cacheLength (sym (at .depth .ensures)) },
-            (
-              sym (test .before .formed .ensures) ∙ not-false (test .before .formed .result) (test .if2 .left),
-              (subst (λ (k : ℕ). start (at .before .before .before) .args .line < lines k) (sym (at .depth .ensures)) (e .inside), e .buffer),
-            ),
-          ),
-        ),
-      ),
-    )
+    accepts (entered (at .before .before)) (at .depth .ensures)
+    (sym (test .before .formed .ensures) ∙ not-false (test .before .formed .result) (test .if2 .left))
 
 same-length-9 : tie.Need-same-length-9
 same-length-9 c = search needs

@@ -1,34 +1,26 @@
 -- `read::read_line` meets its contract. Assumes nothing.
-use mathlib.Core.Path.{_≡_, refl, sym, ap, ap₂, _∙_, subst}
+use mathlib.Core.Path.{_≡_, refl, sym, ap, _∙_}
 use mathlib.Core.Logic.{_⊎_, inl, inr, ⊎-elim}
-use mathlib.Core.Bool.{true, cond}
-use mathlib.Core.List.{List}
+use mathlib.Core.Bool.{true}
 use Prim.Native.Nat.{ℕ, suc, _+_, _*_, _≤_}
 use native.Mathlib.Omega.{arith}
 use borrow.Author.Needs.{needs}
 use borrow.Author.Tests.{not-true, not-false}
-use lib.Dec.{eqb}
 use lib.ListN.{length}
-use Rattle.words.specs.Bytes.{fromLe, part}
-use Rattle.memory_map.specs.Map.{pageOf, placeOf}
-use Rattle.memory_map.proofs.Laws.{page-inside, lines-small}
-use Rattle.pad.specs.Pad.{pad, xorBytes}
-use Rattle.counter.proofs.Laws.{below-minors}
+use Rattle.memory_map.specs.Map.{pageOf}
+use Rattle.memory_map.proofs.Laws.{lines-small}
 use Rattle.answer.specs.declared.Answer.{Answer}
 use Rattle.answer.specs.declared.Answer.the-variants.{Done}
-use Rattle.cache.specs.Cache.{cellContent, current}
 use Rattle.control.specs.Control.{root}
 use Rattle.node.proofs.Laws.{line-room}
-use Rattle.calls.specs.Path.{loaded, loadPath}
-use Rattle.calls.specs.Call.{buffers, ended, storing}
-use Rattle.calls.specs.Read.{sideBytes, blankText, endedRead}
-use Rattle.path.specs.Told.{told, refusalOf}
-use Rattle.path.specs.declared.Path.{Path}
+use Rattle.calls.specs.Path.{loaded}
+use Rattle.calls.specs.Call.{buffers, ended, storing, pathOf}
+use Rattle.calls.specs.Read.{endedRead}
+use Rattle.path.specs.Told.{refusalOf}
 use Rattle.call_laws.specs.Walk.{missing, pathCells, pathStores, withPath}
-use Rattle.path.proofs.Laws.{loaded-told, differs-told}
-use Rattle.path.proofs.Ready.{Ready}
+use Rattle.path.proofs.Ready.{Ready, Found, ready-of, walk-differs, walk-loaded, minor-small}
 use Rattle.read.proofs.Laws.{not-done}
-use Rattle.read.proofs.Reading.{read-differs, read-side, read-cut, cell-kept, read-done}
+use Rattle.read.proofs.Reading.{sideIs, read-differs, read-side, read-cut, read-done}
 use Rattle.read.proofs.read_line.Statement.{statement}
 use Rattle.read.proofs.read_line.Tie as tie
 
@@ -42,18 +34,13 @@ root-requires c κs = search needs
 abbrev start : tie.After-slice-known4 → tie.Start
 start c = c .before .before .before .before .before
 
-ready : (c : tie.After-slice-known4) → let a = start c .args in Ready (a .h) (a .array .now) (a .control .now) (a .cache .now) (pageOf (a .line))
+ready : (c : tie.After-slice-known4) → let a = start c .args in Ready (a .h) (a .array .now) (a .control .now) (a .cache .now)
+    (pageOf (a .line))
 ready c =
     let s = start c in
-    record {
-      sized = s .pre .1 .1 .1 .0;
-      control = s .pre .1 .0;
-      shaped = s .pre .1 .1 .1 .1 .0;
-      page = page-inside (s .args .h) (s .args .line) (s .pre .1 .1 .1 .1 .1 .0);
-      array-bytes = record { at = λ i. c .before .before .slice-known2 .given i .fits };
-      control-bytes = record { at = λ i. c .before .before .before .slice-known .given i .fits };
-      cache-bytes = record { at = λ i. c .before .slice-known3 .given i .fits };
-    }
+    ready-of (s .args .keys .now) (s .args .out .now) (s .pre) (record { at = λ i. c .before .before .slice-known2 .given i .fits })
+    (record { at = λ i. c .before .before .before .slice-known .given i .fits })
+    (record { at = λ i. c .before .slice-known3 .given i .fits })
 
 walk-requires : tie.Need-walk-requires
 walk-requires c κs =
@@ -64,16 +51,6 @@ walk-requires c κs =
 -- what walking the path tells
 abbrev known : tie.After-walk → tie.After-slice-known4
 known c = c .before .before .before .before .before .before
-
-found : (c : tie.After-walk)
-    → let a = start (known c) .args in
-    c .walk .result ≡ told (missing (a .cache .now) (pageOf (a .line)) (suc (a .h))) (loadPath (a .h) (a .keys .now) (a .array .now) (root (a .control .now)) (pageOf (a .line)) (a .cache .now))
-found c =
-    let page = c .before .before .before .before .before in
-    let a = start (known c) .args in
-    c .walk .ensures
-    ∙ ap₂ {C = Path} (λ (p r : ℕ). told (missing (a .cache .now) p (suc (a .h))) (loadPath (a .h) (a .keys .now) (a .array .now) r p (a .cache .now)))
-    (page .page-of .ensures) (c .before .root .ensures)
 
 enum-known-path : tie.Need-enum-known-path
 enum-known-path c = search needs
@@ -99,40 +76,48 @@ returns c =
     let walk = c .before .before .before in
     let at = known walk in
     let a = start at .args in
-    let y = ready at in
-    let told = c .before .enum-told .given in
-    let l = told .0 .0 in
-    let i = told .0 .1 .0 in
-    ap (λ (r : Answer). endedRead r (a .array .now) (a .control .now) (a .cache .now) (a .out .now)) (c .refused .ensures ∙ ap refusalOf (told .1))
-    ∙ read-differs (a .keys .now) (a .line) (a .allowance) (a .out .now) (start at .pre .1 .1 .0) y l i
-    (differs-told (a .h) (y .sized .flat) (a .keys .now) (a .array .now) (y .sized .array) (root (a .control .now)) (pageOf (a .line)) (y .page) (a .cache .now) (y .sized .cache)
-    (missing (a .cache .now) (pageOf (a .line)) (suc (a .h))) l i (sym (told .1) ∙ found walk))
+    let told = c .before .enum-told .given .1 in
+    ap (λ (r : Answer). endedRead r (a .array .now) (a .control .now) (a .cache .now) (a .out .now))
+    (c .refused .ensures ∙ ap refusalOf told)
+    ∙ read-differs (a .keys .now) (a .line) (a .allowance) (a .out .now) (buffers (a .array .now) (a .control .now) (a .cache .now))
+    (walk-differs (a .keys .now) (a .line) (ready at) (start at .pre .1 .1 .0)
+    (walk .before .before .before .before .before .page-of .ensures)
+    (walk .before .root .ensures) (walk .walk .ensures) told)
 
 -- the path is loaded
 abbrev walked : tie.After-path → tie.After-walk
 walked c = c .before .before
 
-counted : (c : tie.After-path)
-    → let a = start (known (walked c)) .args in
-    (c .path .given .0 .0 ≡ missing (a .cache .now) (pageOf (a .line)) (suc (a .h)))
-    × (loadPath (a .h) (a .keys .now) (a .array .now) (root (a .control .now)) (pageOf (a .line)) (a .cache .now)
-    ≡ loaded (withPath (a .h) (a .array .now) (pageOf (a .line)) (suc (a .h)) (a .cache .now)) (pathCells (a .h) (a .cache .now) (pageOf (a .line)) (suc (a .h))))
-counted c =
-    let at = known (walked c) in
+loads : (c : tie.After-path)
+    → let a = start (known (walked c)) .args in let p = pageOf (a .line) in
+    (c .path .given .0 .0 ≡ missing (a .cache .now) p (suc (a .h)))
+    × (pathOf (a .keys .now) (a .line) (buffers (a .array .now) (a .control .now) (a .cache .now))
+    ≡ loaded (withPath (a .h) (a .array .now) p (suc (a .h)) (a .cache .now)) (pathCells (a .h) (a .cache .now) p (suc (a .h))))
+loads c =
+    let walk = walked c in
+    let at = known walk in
     let a = start at .args in
-    let y = ready at in
-    loaded-told (a .h) (y .sized .flat) (a .keys .now) (a .array .now) (y .sized .array) (root (a .control .now)) (pageOf (a .line)) (y .page) (a .cache .now) (y .sized .cache)
-    (missing (a .cache .now) (pageOf (a .line)) (suc (a .h))) (c .path .given .0 .0) (sym (c .path .given .1) ∙ found (walked c))
+    walk-loaded (a .keys .now) (a .line) (ready at) (start at .pre .1 .1 .0)
+    (walk .before .before .before .before .before .page-of .ensures)
+    (walk .before .root .ensures) (walk .walk .ensures) (c .path .given .1)
 
 line-counter-requires : tie.Need-line-counter-requires
 line-counter-requires c κs = search needs
 
 room : (c : tie.After-slice-known4) → 72 * start c .args .line + 72 ≤ length (start c .args .array .now)
-room c = let s = start c in line-room (s .args .h) (s .args .array .now) (s .args .line) (s .pre .1 .1 .1 .0 .array) (s .pre .1 .1 .1 .1 .1 .0)
+room c =
+    let s = start c in line-room (s .args .h) (s .args .array .now) (s .args .line) (s .pre .1 .1 .1 .0 .array) (s .pre .1 .1 .1 .1 .1 .0)
 
--- a law of reading, at the counter that was found
+-- and the counter found
 abbrev seen : tie.After-line-counter → tie.After-path
 seen c = c .before .before .before .before
+
+found : (c : tie.After-line-counter)
+    → let a = start (known (walked (seen c))) .args in
+    Found (a .h) (a .keys .now) (a .array .now) (a .control .now) (a .cache .now) (a .line) (c .line-counter .result)
+found c =
+    let at = known (walked (seen c)) in
+    record { ready = ready at; deep = start at .pre .1 .1 .0; path = loads (seen c) .1; counter = c .line-counter .ensures }
 
 side-ok-requires : tie.Need-side-ok-requires
 side-ok-requires c κs =
@@ -152,19 +137,14 @@ returns-2 : tie.Need-returns-2
 returns-2 c =
     let side = c .before in
     let count = side .before .before .before .before in
-    let path = seen count in
-    let at = known (walked path) in
-    let a = start at .args in
-    read-side (a .keys .now) (a .line) (a .allowance) (a .out .now) (start at .pre .1 .1 .0) (ready at) (counted path .1) (count .line-counter .result .major) (count .line-counter .result .minor)
-    (count .line-counter .ensures .major-is) (count .line-counter .ensures .minor-is) (side .before .before .if1 .taken)
+    let a = start (known (walked (seen count))) .args in
+    read-side (found count) (a .allowance) (a .out .now) (side .before .before .if1 .taken)
     (sym (side .side-ok .ensures) ∙ not-true (side .side-ok .result) (c .if2 .taken))
 
 -- its side bytes are right, or it was never written
 passes : (c : tie.Joined1)
     → let count = c .before .before in let a = start (known (walked (seen count))) .args in
-    (count .line-counter .result .minor ≡ 0)
-    ⊎ (eqb (fromLe (part (a .array .now) (72 * a .line + 64) 8))
-    (fromLe (sideBytes (a .keys .now) (cellContent (a .array .now) (a .line)) (a .line) (count .line-counter .result .major) (count .line-counter .result .minor))) ≡ true)
+    (count .line-counter .result .minor ≡ 0) ⊎ (sideIs (a .keys .now) (a .array .now) (a .line) (count .line-counter .result) ≡ true)
 passes c = ⊎-elim (λ w. inr (sym (w .2 .ensures) ∙ not-false (w .2 .result) (w .3 .left))) (λ w. inl (w .left)) (c .if1 .came)
 
 settle-requires : tie.Need-settle-requires
@@ -181,7 +161,7 @@ settle-requires c κs =
           y .shaped,
           (
             omega (arith, page .page-of .ensures, y .page),
-            counted path .0 ∙ ap (λ (p : ℕ). missing (start at .args .cache .now) p (suc (start at .args .h))) (sym (page .page-of .ensures)),
+            loads path .0 ∙ ap (λ (p : ℕ). missing (start at .args .cache .now) p (suc (start at .args .h))) (sym (page .page-of .ensures)),
           ),
         ),
       ),
@@ -191,14 +171,18 @@ settle-requires c κs =
 settled-on : (c : tie.After-settle)
     → let path = seen (c .before .before .before .before .before .before) in let a = start (known (walked path)) .args in
     ended (c .settle .result) (c .settle .last .1 .1 .0) (c .settle .last .1 .0) (c .settle .last .1 .1 .1 .0)
-    ≡ storing (a .allowance) (buffers (a .array .now) (a .control .now) (a .cache .now)) (pathStores (a .h) (a .cache .now) (pageOf (a .line)) (root (a .control .now)))
-    (Done (length (pathStores (a .h) (a .cache .now) (pageOf (a .line)) (root (a .control .now)))) 0) (withPath (a .h) (a .array .now) (pageOf (a .line)) (suc (a .h)) (a .cache .now))
+    ≡ storing (a .allowance) (buffers (a .array .now) (a .control .now) (a .cache .now))
+    (pathStores (a .h) (a .cache .now) (pageOf (a .line)) (root (a .control .now)))
+    (Done (length (pathStores (a .h) (a .cache .now) (pageOf (a .line)) (root (a .control .now)))) 0)
+    (withPath (a .h) (a .array .now) (pageOf (a .line)) (suc (a .h)) (a .cache .now))
 settled-on c =
     let walk = walked (seen (c .before .before .before .before .before .before)) in
     let a = start (known walk) .args in
     c .settle .ensures
-    ∙ ap (λ (p : ℕ). storing (a .allowance) (buffers (a .array .now) (a .control .now) (a .cache .now)) (pathStores (a .h) (a .cache .now) p (root (a .control .now)))
-    (Done (length (pathStores (a .h) (a .cache .now) p (root (a .control .now)))) 0) (withPath (a .h) (a .array .now) p (suc (a .h)) (a .cache .now)))
+    ∙ ap (λ (p : ℕ). storing (a .allowance) (buffers (a .array .now) (a .control .now) (a .cache .now))
+    (pathStores (a .h) (a .cache .now) p (root (a .control .now)))
+    (Done (length (pathStores (a .h) (a .cache .now) p (root (a .control .now)))) 0)
+    (withPath (a .h) (a .array .now) p (suc (a .h)) (a .cache .now)))
     (walk .before .before .before .before .before .page-of .ensures)
 
 enum-known-ended : tie.Need-enum-known-ended
@@ -217,12 +201,9 @@ returns-3 : tie.Need-returns-3
 returns-3 c =
     let call = c .before .before .before .before .before .before .before in
     let count = call .before .before .before .before .before .before in
-    let path = seen count in
-    let at = known (walked path) in
-    let a = start at .args in
-    read-cut (a .keys .now) (a .line) (a .allowance) (a .out .now) (start at .pre .1 .1 .0) (ready at) (counted path .1) (count .line-counter .result .major) (count .line-counter .result .minor)
-    (count .line-counter .ensures .major-is) (count .line-counter .ensures .minor-is) (passes (call .before .before .before .before)) (call .settle .result)
-    (call .settle .last .1 .1 .0) (call .settle .last .1 .0) (call .settle .last .1 .1 .1 .0) (settled-on call) (not-done (call .settle .result) (c .match2 .keys2) _ _)
+    let a = start (known (walked (seen count))) .args in
+    read-cut (found count) (a .allowance) (a .out .now) (passes (call .before .before .before .before)) (settled-on call)
+    (not-done (call .settle .result) (c .match2 .keys2) _ _)
 
 give-requires : tie.Need-give-requires
 give-requires c κs =
@@ -236,7 +217,7 @@ give-requires c κs =
         (
           omega (arith, s .pre .1 .1 .1 .1 .1 .0, lines-small {h = s .args .h} refl (s .pre .1 .1 .1 .0 .flat)),
           (
-            omega (arith, count .line-counter .ensures .minor-is, below-minors (current (s .args .h) (s .args .array .now) (s .args .cache .now) 0 (pageOf (s .args .line))) .at (placeOf (s .args .line))),
+            minor-small (found count),
             s .pre .1 .1 .1 .1 .1 .1,
           ),
         ),
@@ -261,18 +242,9 @@ returns-4 c =
     let told = gave .before .before .before .before in
     let call = told .before .before .before .before .before .before .before .before in
     let count = call .before .before .before .before .before .before in
-    let path = seen count in
-    let at = known (walked path) in
-    let a = start at .args in
-    read-done (a .keys .now) (a .line) (a .allowance) (a .out .now) (start at .pre .1 .1 .0) (ready at) (counted path .1) (count .line-counter .result .major) (count .line-counter .result .minor)
-    (count .line-counter .ensures .major-is) (count .line-counter .ensures .minor-is) (passes (call .before .before .before .before)) (call .settle .result)
-    (call .settle .last .1 .1 .0) (call .settle .last .1 .0) (call .settle .last .1 .1 .1 .0) (settled-on call) (told .ended .given .0 .0) (told .ended .given .0 .1 .0) (told .ended .given .1)
-    (gave .give .result) (gave .give .last .1 .1 .1 .1 .1 .1 .0) (gave .give .ensures .0) (gave .give .ensures .1
-    ∙ ap (λ (b : List ℕ). cond (eqb (count .line-counter .result .minor) 0) blankText
-    (xorBytes b (pad (a .keys .now) (a .line) (count .line-counter .result .major) (count .line-counter .result .minor))))
-    (cell-kept (a .keys .now) (a .line) (a .allowance) (a .out .now) (start at .pre .1 .1 .0) (ready at) (counted path .1) (count .line-counter .result .major) (count .line-counter .result .minor)
-    (count .line-counter .ensures .major-is) (count .line-counter .ensures .minor-is) (passes (call .before .before .before .before)) (call .settle .result)
-    (call .settle .last .1 .1 .0) (call .settle .last .1 .0) (call .settle .last .1 .1 .1 .0) (settled-on call) (start at .pre .1 .1 .1 .1 .1 .0)))
+    let s = start (known (walked (seen count))) in
+    read-done (found count) (s .args .allowance) (s .args .out .now) (passes (call .before .before .before .before)) (settled-on call)
+    (told .ended .given .1) (s .pre .1 .1 .1 .1 .1 .0) (gave .give .ensures .0) (gave .give .ensures .1)
 
 pub read-line-spec : {M : Type 1} → statement M
 read-line-spec =

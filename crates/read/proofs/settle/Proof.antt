@@ -31,11 +31,14 @@ ready c =
       cache-bytes = record { at = λ i. c .slice-known3 .given i .fits };
     }
 
-counted : (c : tie.After-slice-known3) → start c .args .missing ≡ missing (start c .args .cache .now) (start c .args .p) (suc (start c .args .h))
+counted : (c : tie.After-slice-known3) → start c .args .missing
+    ≡ missing (start c .args .cache .now) (start c .args .p) (suc (start c .args .h))
 counted c = start c .pre .1 .1 .1 .1
 
 returns : tie.Need-returns
-returns c = settle-none (ready (c .before)) (start (c .before) .args .allowance) (start (c .before) .args .missing) (counted (c .before)) (c .if1 .taken)
+returns c =
+    settle-none (ready (c .before)) (start (c .before) .args .allowance) (start (c .before) .args .missing) (counted (c .before))
+    (c .if1 .taken)
 
 root-requires : tie.Need-root-requires
 root-requires c κs = search needs
@@ -51,18 +54,20 @@ known c = c .before .before .before .before .before .before
 
 staged : (c : tie.After-gather)
     → let a = start (known c) .args in
-    Staged (a .h) (a .allowance) (a .array .now) (a .control .now) (pathCells (a .h) (a .cache .now) (a .p) (suc (a .h))) (c .gather .last .1 .1 .1 .0) (c .gather .result)
+    Staged (a .h) (a .allowance) (a .array .now) (a .control .now) (pathCells (a .h) (a .cache .now) (a .p) (suc (a .h)))
+    (c .gather .last .1 .1 .1 .0) (c .gather .result)
 staged c =
     let at = known c in
     let a = start at .args in
-    settling (ready at) (a .allowance) (a .missing) (counted at) (c .before .before .before .before .before .if1 .left) (c .gather .last .1 .1 .1 .0) (c .gather .result)
-    (c .gather .ensures .0) (c .gather .ensures .1)
+    settling (ready at) (counted at) (c .before .before .before .before .before .if1 .left) (c .gather .ensures .0) (c .gather .ensures .1)
 
 run-requires : tie.Need-run-requires
 run-requires c κs =
     let made = c .before .before .before .before in
-    let s = staged made in
-    (made .gather .kept .1 .1 .1 .0 ∙ start (known made) .pre .0, ((omega (arith, s .some, s .number), omega (arith, s .few, s .number)), staged-inside s))
+    let s = staged made in (
+      made .gather .kept .1 .1 .1 .0 ∙ start (known made) .pre .0,
+      ((omega (arith, s .some, s .number), omega (arith, s .few, s .number)), staged-inside s),
+    )
 
 small : (c : tie.After-gather) → c .gather .result ≤ 8
 small c = let s = staged c in omega (arith, s .few, s .number)
@@ -88,18 +93,15 @@ made c = c .before .before .before .before .before
 
 ran : (c : tie.After-run)
     → let g = made c in let a = start (known g) .args in
-    Ran (a .array .now) (g .gather .last .1 .1 .1 .0) (g .gather .result) (g .before .before .before .root .result) (a .allowance) (media (c .run .last .0) (c .run .last .1 .0)) (c .run .result)
+    Ran (a .array .now) (g .gather .last .1 .1 .1 .0) (g .gather .result) (g .before .before .before .root .result) (a .allowance)
+    (media (c .run .last .0) (c .run .last .1 .0)) (c .run .result)
 ran c = record { left = c .run .ensures .0; number = c .run .ensures .1 }
 
 returns-2 : tie.Need-returns-2
 returns-2 c =
     let r = c .before .before .before .before .before in
     let g = made r in
-    let at = known g in
-    let a = start at .args in
-    let root = g .before .before .before in
-    settle-cut (ready at) (a .allowance) (a .missing) (counted at) (g .before .before .before .before .before .if1 .left) (g .gather .last .1 .1 .1 .0) (g .gather .result)
-    (g .gather .ensures .0) (g .gather .ensures .1) (root .root .result) (root .root .ensures) (r .run .last .0) (r .run .last .1 .0) (r .run .result) (ran r) (c .if2 .taken)
+    settle-cut (ready (known g)) (staged g) (g .before .before .before .root .ensures) (ran r) (c .if2 .taken)
 
 load-requires : tie.Need-load-requires
 load-requires c κs = search needs
@@ -118,11 +120,7 @@ returns-3 c =
     let call = c .before .before in
     let r = call .before .before .before .before .before .before .before .before in
     let g = made r in
-    let at = known g in
-    let a = start at .args in
-    let root = g .before .before .before in
-    settle-done (ready at) (a .allowance) (a .missing) (counted at) (g .before .before .before .before .before .if1 .left) (g .gather .last .1 .1 .1 .0) (g .gather .result)
-    (g .gather .ensures .0) (g .gather .ensures .1) (root .root .result) (root .root .ensures) (r .run .last .0) (r .run .last .1 .0) (r .run .result) (ran r)
+    settle-done (ready (known g)) (staged g) (g .before .before .before .root .ensures) (ran r)
     (call .before .before .before .if2 .left) (call .load .last .1 .1 .1 .0) (call .load .ensures)
 
 pub settle-spec : {M : Type 1} → statement M

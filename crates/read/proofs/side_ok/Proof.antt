@@ -16,7 +16,9 @@ in-cell-requires : tie.Need-in-cell-requires
 in-cell-requires c κs = search needs
 
 data-tag-requires : tie.Need-data-tag-requires
-data-tag-requires c κs = let s = c .before .before .before in (s .pre .0, ap length (c .in-cell .ensures) ∙ cell-size (s .args .array .now) (s .args .line) (s .pre .1))
+data-tag-requires c κs =
+    let s = c .before .before .before in
+    (s .pre .0, ap length (c .in-cell .ensures) ∙ cell-size (s .args .array .now) (s .args .line) (s .pre .1))
 
 mul-load64 : tie.Need-mul-load64
 mul-load64 c = search needs
@@ -27,10 +29,12 @@ add-load64 c = search needs
 load64-requires : tie.Need-load64-requires
 load64-requires c κs = search needs
 
-tagged : (c : tie.After-load64) → let a = c .before .before .before .before .before .args in c .before .data-tag .result ≡ dataTag (a .keys .now) (cellContent (a .array .now) (a .line)) (a .line) (a .major) (a .minor)
+tagged : (c : tie.After-load64) → let a = c .before .before .before .before .before .args in c .before .data-tag .result
+    ≡ dataTag (a .keys .now) (cellContent (a .array .now) (a .line)) (a .line) (a .major) (a .minor)
 tagged c =
     let a = c .before .before .before .before .before .args in
-    c .before .data-tag .ensures ∙ ap (λ (l : List ℕ). dataTag (a .keys .now) l (a .line) (a .major) (a .minor)) (c .before .before .in-cell .ensures)
+    c .before .data-tag .ensures ∙ ap (λ (l : List ℕ). dataTag (a .keys .now) l (a .line) (a .major) (a .minor))
+    (c .before .before .in-cell .ensures)
 
 small : (c : tie.After-load64) → 256 * c .before .data-tag .result < 2 ^ 64 - 255
 small c = side-small _ _ _ _ _ (tagged c)
@@ -45,7 +49,8 @@ returns : tie.Need-returns
 returns c =
     let a = c .before .before .before .before .before .args in
     ap₂ eqb (c .load64 .ensures)
-    (ap (λ (t : ℕ). a .minor % 4 + 256 * t) (tagged c) ∙ side-word (a .keys .now) (cellContent (a .array .now) (a .line)) (a .line) (a .major) (a .minor))
+    (ap (λ (t : ℕ). a .minor % 4 + 256 * t) (tagged c)
+    ∙ side-word (a .keys .now) (cellContent (a .array .now) (a .line)) (a .line) (a .major) (a .minor))
 
 pub side-ok-spec : {M : Type 1} → statement M
 side-ok-spec =

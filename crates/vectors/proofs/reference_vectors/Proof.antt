@@ -25,7 +25,8 @@ array-share-prefix-s : tie.Need-array-share-prefix-s Inv-loop μ-loop
 array-share-prefix-s c = search needs
 
 slice-aggregate-siphash-line : tie.Need-slice-aggregate-siphash-line Inv-loop μ-loop
-slice-aggregate-siphash-line c = sym (length-take-le (c .before .before .loop .n) (c .before .before .before .counting .result) (omega arith))
+slice-aggregate-siphash-line c =
+    sym (length-take-le (c .before .before .loop .n) (c .before .before .before .counting .result) (omega arith))
 
 siphash-line-requires : tie.Need-siphash-line-requires Inv-loop μ-loop
 siphash-line-requires c κs = search needs

@@ -52,7 +52,8 @@ loop-again c =
       (
         call .store64 .ensures
             ∙ ap (λ (x : ℕ). put (at .loop .dst) (start .to + 8 * at .loop .i) (toLe 8 x)) (call .before .load64 .ensures)
-            ∙ ap (λ (l : List ℕ). put l (start .to + 8 * at .loop .i) (toLe 8 (fromLe (part (start .src .now) (start .from + 8 * at .loop .i) 8)))) (at .loop .inv .1 .0)
+            ∙ ap (λ (l : List ℕ). put l (start .to + 8 * at .loop .i)
+            (toLe 8 (fromLe (part (start .src .now) (start .from + 8 * at .loop .i) 8)))) (at .loop .inv .1 .0)
             ∙ copy-word (start .dst .now) (start .to) (start .src .now) (start .from) (8 * at .loop .i) (omega arith) (omega arith)
             (record { at = λ i. at .before .shared-slice-known .given i .fits })
             ∙ ap (λ (k : ℕ). put (start .dst .now) (start .to) (part (start .src .now) (start .from) k)) next,

@@ -30,7 +30,8 @@ returns : tie.Need-returns
 returns c =
     let start = c .before .before .before .before .before .before .before .before .before in
     c .before .before .store322 .ensures
-    ∙ ap (λ (l : List ℕ). put l (start .args .at + 4) (toLe 4 (start .args .x / 4294967296))) (c .before .before .before .before .before .before .store32 .ensures)
+    ∙ ap (λ (l : List ℕ). put l (start .args .at + 4) (toLe 4 (start .args .x / 4294967296)))
+    (c .before .before .before .before .before .before .store32 .ensures)
     ∙ put8 (start .args .s .now) (start .args .at) (start .args .x) (start .pre)
 
 pub store64-spec : {M : Type 1} → statement M

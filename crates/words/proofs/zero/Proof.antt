@@ -37,7 +37,8 @@ loop-again c =
     let start = at .before .args in (
       omega arith,
       (
-        ap (λ (l : List ℕ). set l (start .at + at .loop .i) 0) (at .loop .inv .1 .0) ∙ zero-next (start .s .now) (start .at) (at .loop .i) (omega arith),
+        ap (λ (l : List ℕ). set l (start .at + at .loop .i) 0) (at .loop .inv .1 .0)
+            ∙ zero-next (start .s .now) (start .at) (at .loop .i) (omega arith),
         simp length-set (at .loop .inv .1 .1),
       ),
     )

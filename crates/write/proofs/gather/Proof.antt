@@ -7,7 +7,7 @@ use lib.ListN.{length}
 use Rattle.memory_map.specs.Map.{pages, pageOf}
 use Rattle.memory_map.proofs.Laws.{page-inside, lines-small}
 use Rattle.call_laws.specs.Walk.{missing, pathCells}
-use Rattle.write.specs.Parts.{blockCells}
+use Rattle.call_laws.specs.Line.{blockCells}
 use Rattle.write.proofs.Batch.{cells-length, gathered}
 use Rattle.write.proofs.gather.Statement.{statement}
 use Rattle.write.proofs.gather.Tie as tie
@@ -26,11 +26,13 @@ record Few (h : ℕ) (x y : ℕ) (p : ℕ) (line : ℕ) : Type 0 where
   word : line < 2 ^ 32
 
 few : (c : tie.After-page-of) → let a = start c .args in let p = c .page-of .result in
-    Few (a .h) (length (pathCells (a .h) (a .cache .now) p (suc (a .h)))) (length (blockCells (a .h) p (a .minor) (a .block .now))) p (a .line)
+    Few (a .h) (length (pathCells (a .h) (a .cache .now) p (suc (a .h)))) (length (blockCells (a .h) p (a .minor) (a .block .now))) p
+    (a .line)
 few c =
     let s = start c in
     let a = s .args in
-    subst (λ (p : ℕ). Few (a .h) (length (pathCells (a .h) (a .cache .now) p (suc (a .h)))) (length (blockCells (a .h) p (a .minor) (a .block .now))) p (a .line))
+    subst (λ (p : ℕ). Few (a .h) (length (pathCells (a .h) (a .cache .now) p (suc (a .h))))
+    (length (blockCells (a .h) p (a .minor) (a .block .now))) p (a .line))
     (sym (c .page-of .ensures))
     (let all = cells-length (a .h) (a .keys .now) (a .cache .now) (a .line) (a .text .now) (a .major) (a .minor) (a .block .now) in
     record {
@@ -46,7 +48,14 @@ put-path-requires c κs =
     let s = start at in
     let k = s .pre .1 .0 in (
       (k .0, (k .1 .0, (k .1 .1 .0, (k .1 .1 .1 .0, few at .page)))),
-      (s .pre .1 .1 .0, (omega (arith, few at .path), s .pre .1 .1 .1 .0 ∙ ap (λ (p : ℕ). missing (s .args .cache .now) p (suc (s .args .h))) (sym (at .page-of .ensures)))),
+      (
+        s .pre .1 .1 .0,
+        (
+          omega (arith, few at .path),
+          s .pre .1 .1 .1 .0
+              ∙ ap (λ (p : ℕ). missing (s .args .cache .now) p (suc (s .args .h))) (sym (at .page-of .ensures)),
+        ),
+      ),
     )
 
 put-block-requires : tie.Need-put-block-requires
@@ -54,8 +63,23 @@ put-block-requires c κs =
     let put = c .before .before .before in
     let at = put .before .before in
     let s = start at in
-    let k = s .pre .1 .0 in
-    (k .0, (k .1 .0, (few at .page, (s .pre .0 .1 .1 .1, (put .put-path .kept .1 .1 .1 .1 .0 ∙ s .pre .1 .1 .0, omega (arith, put .put-path .ensures .1, few at .path))))))
+    let k = s .pre .1 .0 in (
+      k .0,
+      (
+        k .1 .0,
+        (
+          few at .page,
+          (
+            s .pre .0 .1 .1 .1,
+            (
+              put .put-path .kept .1 .1 .1 .1 .0
+                  ∙ s .pre .1 .1 .0,
+              omega (arith, put .put-path .ensures .1, few at .path),
+            ),
+          ),
+        ),
+      ),
+    )
 
 put-data-requires : tie.Need-put-data-requires
 put-data-requires c κs =
@@ -95,9 +119,12 @@ returns c =
     let put = block .before .before .before .before in
     let at = put .before .before in
     let a = start at .args in
-    gathered (a .h) (a .keys .now) (a .cache .now) (a .line) (a .text .now) (a .major) (a .minor) (a .block .now) (a .allowance) (at .page-of .result) (at .page-of .ensures)
-    (a .control .now) (put .put-path .last .1 .1 .1 .1 .0) (block .put-block .last .1 .1 .1 .1 .0) (last .put-data .last .1 .1 .1 .1 .1 .0) (put .put-path .result) (block .put-block .result)
-    (put .put-path .ensures .0) (put .put-path .ensures .1) (block .put-block .ensures .0) (block .put-block .ensures .1) (last .put-data .ensures)
+    gathered (a .h) (a .keys .now) (a .cache .now) (a .line) (a .text .now) (a .major) (a .minor) (a .block .now) (a .allowance)
+    (at .page-of .result) (at .page-of .ensures)
+    (a .control .now) (put .put-path .last .1 .1 .1 .1 .0) (block .put-block .last .1 .1 .1 .1 .0) (last .put-data .last .1 .1 .1 .1 .1 .0)
+    (put .put-path .result) (block .put-block .result)
+    (put .put-path .ensures .0) (put .put-path .ensures .1) (block .put-block .ensures .0) (block .put-block .ensures .1)
+    (last .put-data .ensures)
 
 pub gather-spec : {M : Type 1} → statement M
 gather-spec =

@@ -31,7 +31,8 @@ loop-holds : tie.Need-loop-holds Inv-loop μ-loop
 loop-holds c =
     let s = start (c .before) in
     let a = s .args in
-    tagging-first (a .h) (s .pre .1 .0 .flat) (a .keys .now) (a .array .now) (a .cache .now) (a .p) (a .block .now) (replicate 4 0) (c .node-tag .result) refl (c .node-tag .ensures)
+    tagging-first (a .h) (s .pre .1 .0 .flat) (a .keys .now) (a .array .now) (a .cache .now) (a .p) (a .block .now) (replicate 4 0)
+    (c .node-tag .result) refl (c .node-tag .ensures)
 
 on-path-requires : tie.Need-on-path-requires Inv-loop μ-loop
 on-path-requires c κs = omega (arith, c .before .loop .inv .levels, start (c .before .before .before) .pre .1 .0 .flat)
@@ -61,8 +62,14 @@ current-requires c κs = let s = begin c in (s .pre .1 .0, inside c)
 changed-tag-requires : tie.Need-changed-tag-requires Inv-loop μ-loop
 changed-tag-requires c κs =
     let at = c .before in
-    let s = begin at in
-    (s .pre .0, (ap length (c .current .ensures) ∙ current-length (turn at .loop .l + 1) (at .on-path2 .result) (s .pre .1 .0) (inside at), omega arith))
+    let s = begin at in (
+      s .pre .0,
+      (
+        ap length (c .current .ensures)
+            ∙ current-length (turn at .loop .l + 1) (at .on-path2 .result) (s .pre .1 .0) (inside at),
+        omega arith,
+      ),
+    )
 
 mul-tags : tie.Need-mul-tags Inv-loop μ-loop
 mul-tags c = omega arith
@@ -78,8 +85,10 @@ loop-again c =
     let at = c .before .before in
     let s = begin at in
     let a = s .args in
-    tagging-next (a .h) (s .pre .1 .0 .flat) (a .keys .now) (a .array .now) (a .cache .now) (a .p) (a .block .now) (turn at .loop .inv) (at .before .before .loop-test .taken)
-    (at .before .on-path .result) (at .on-path2 .result) (c .changed-tag .result) (c .before .current .result .now) (at .before .on-path .ensures) (at .on-path2 .ensures)
+    tagging-next (a .h) (s .pre .1 .0 .flat) (a .keys .now) (a .array .now) (a .cache .now) (a .p) (a .block .now) (turn at .loop .inv)
+    (at .before .before .loop-test .taken)
+    (at .before .on-path .result) (at .on-path2 .result) (c .changed-tag .result) (c .before .current .result .now)
+    (at .before .on-path .ensures) (at .on-path2 .ensures)
     (c .before .current .ensures) (c .changed-tag .ensures)
 
 returns : tie.Need-returns Inv-loop μ-loop

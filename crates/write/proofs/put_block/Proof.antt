@@ -17,8 +17,14 @@ returns c =
 
 node-cell-requires : tie.Need-node-cell-requires
 node-cell-requires c κs =
-    let s = c .before .before .before .before in
-    (s .pre .0, (s .pre .1 .0, subst (λ (i : ℕ). InMap (s .args .h) (node 0 i)) (path-bottom (s .args .p)) (path-node (s .args .h) (s .args .p) 0 (s .pre .1 .1 .0) zero-le)))
+    let s = c .before .before .before .before in (
+      s .pre .0,
+      (
+        s .pre .1 .0,
+        subst (λ (i : ℕ). InMap (s .args .h) (node 0 i)) (path-bottom (s .args .p))
+            (path-node (s .args .h) (s .args .p) 0 (s .pre .1 .1 .0) zero-le),
+      ),
+    )
 
 put-cell-requires : tie.Need-put-cell-requires
 put-cell-requires c κs = search needs
@@ -34,7 +40,8 @@ returns-2 c =
     let call = c .before .before in
     let test = call .before .before .before in
     let a = test .before .before .before .args in
-    let k = block-some (a .h) (a .p) (a .minor) (a .block .now) (a .allowance) (a .control .now) (a .n) (test .if1 .left) (call .put-cell .last .0)
+    let k = block-some (a .h) (a .p) (a .minor) (a .block .now) (a .allowance) (a .control .now) (a .n) (test .if1 .left)
+    (call .put-cell .last .0)
     (call .before .node-cell .result) (call .before .node-cell .ensures) (call .put-cell .ensures) in
     (k .cells, k .number)
 

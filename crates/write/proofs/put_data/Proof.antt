@@ -9,8 +9,9 @@ use Rattle.words.specs.Bytes.{put}
 use Rattle.words.proofs.Puts.{part-put}
 use Rattle.control.specs.Control.{placeAt}
 use Rattle.batch.proofs.Laws.{staged-past}
-use Rattle.write.specs.Parts.{lineCell}
-use Rattle.write.proofs.Laws.{line-cell-length, line-put}
+use Rattle.call_laws.specs.Line.{lineCell}
+use Rattle.call_laws.proofs.Line.{line-cell-length}
+use Rattle.write.proofs.Laws.{line-put}
 use Rattle.write.proofs.put_data.Statement.{statement}
 use Rattle.write.proofs.put_data.Tie as tie
 
@@ -56,14 +57,17 @@ returns c =
     let x = lineCell (a .keys .now) (a .line) (a .text .now) (a .major) (a .minor) in
     let full = line-cell-length (a .keys .now) (a .line) (a .text .now) (a .major) (a .minor) (start .pre .1 .1 .0) in
     let wide : 72 ≡ placeAt (a .n) + 80 - (placeAt (a .n) + 8) = omega arith in
-    part-put (first .store64 .last .0) (placeAt (a .n) + 8) (call .seal .last .1 .1 .1 .1 .1 .0) (placeAt (a .n) + 80 - (placeAt (a .n) + 8)) (ap length e ∙ full ∙ wide)
+    part-put (first .store64 .last .0) (placeAt (a .n) + 8) (call .seal .last .1 .1 .1 .1 .1 .0)
+    (placeAt (a .n) + 80 - (placeAt (a .n) + 8)) (ap length e ∙ full ∙ wide)
     ∙ ap₂ {C = List ℕ} (λ (k b : List ℕ). put k (placeAt (a .n) + 8) b) (first .store64 .ensures) e
-    ∙ line-put (a .control .now) (a .n) (a .allowance) x (start .pre .1 .1 .1 .1 .0) (start .pre .1 .1 .1 .1 .1) (test .if1 .taken) full (placeAt (a .n)) refl
+    ∙ line-put (a .control .now) (a .n) (a .allowance) x (start .pre .1 .1 .1 .1 .0) (start .pre .1 .1 .1 .1 .1) (test .if1 .taken) full
+    (placeAt (a .n)) refl
 
 returns-2 : tie.Need-returns-2
 returns-2 c =
     let a = c .before .before .before .before .args in
-    staged-past (a .control .now) (a .n) (a .allowance) (lineCell (a .keys .now) (a .line) (a .text .now) (a .major) (a .minor)) (omega (arith, c .if1 .left))
+    staged-past (a .control .now) (a .n) (a .allowance) (lineCell (a .keys .now) (a .line) (a .text .now) (a .major) (a .minor))
+    (omega (arith, c .if1 .left))
 
 pub put-data-spec : {M : Type 1} → statement M
 put-data-spec =

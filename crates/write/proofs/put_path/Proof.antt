@@ -14,7 +14,8 @@ use Rattle.write.proofs.put_path.Tie as tie
 returns : tie.Need-returns
 returns c =
     let a = c .before .before .before .args in
-    let none = none-missing (a .h) [] (a .cache .now) (a .p) (suc (a .h)) (sym (c .before .before .before .pre .1 .1 .1) ∙ c .if1 .taken) .0 in (
+    let none = none-missing (a .h) [] (a .cache .now) (a .p) (suc (a .h))
+    (sym (c .before .before .before .pre .1 .1 .1) ∙ c .if1 .taken) .0 in (
       staged-none (a .allowance) 0 (a .control .now) ∙ ap (λ (x : List Cell). stagedFrom (a .allowance) 0 x (a .control .now)) (sym none),
       sym (ap length none),
     )

@@ -26,7 +26,8 @@ start c = c .before .before .before .before .before .before .before .before
 inside : (c : tie.After-page-of) → InMap (start c .args .h) (node 0 (c .page-of .result))
 inside c =
     let s = start c in
-    subst (λ (i : ℕ). InMap (s .args .h) (node 0 i)) (sym (c .page-of .ensures)) (page-node (s .args .h) (s .args .line) (s .pre .1 .1 .1 .1 .0))
+    subst (λ (i : ℕ). InMap (s .args .h) (node 0 i)) (sym (c .page-of .ensures))
+    (page-node (s .args .h) (s .args .line) (s .pre .1 .1 .1 .1 .0))
 
 current-requires : tie.Need-current-requires
 current-requires c κs = (start c .pre .1 .1 .0, inside c)
@@ -47,14 +48,16 @@ with-minor-requires c κs =
 
 -- the block with the line's new minor
 new-block : (c : tie.After-with-minor) → let a = start (c .before .before .before .before) .args in
-    c .with-minor .last .1 .1 .1 .0 ≡ withMinor (current (a .h) (a .array .now) (a .cache .now) 0 (pageOf (a .line))) (placeOf (a .line)) (a .minor)
+    c .with-minor .last .1 .1 .1 .0 ≡ withMinor (current (a .h) (a .array .now) (a .cache .now) 0 (pageOf (a .line))) (placeOf (a .line))
+    (a .minor)
 new-block c =
     let place = c .before .before in
     let at = place .before .before in
     let a = start at .args in
     c .with-minor .ensures
     ∙ ap₂ {C = List ℕ} (λ (b : List ℕ) (j : ℕ). withMinor b j (a .minor))
-    (place .before .current .ensures ∙ ap (current (a .h) (a .array .now) (a .cache .now) 0) (at .page-of .ensures)) (place .place-of .ensures)
+    (place .before .current .ensures ∙ ap (current (a .h) (a .array .now) (a .cache .now) 0) (at .page-of .ensures))
+    (place .place-of .ensures)
 
 slice-aggregate-store-line : tie.Need-slice-aggregate-store-line
 slice-aggregate-store-line c = search needs

@@ -94,7 +94,12 @@ renew-slot-requires c κs =
     let s = entry turn in
     let l = turn .loop .l in (
       slot-room (s .args .h) (c .slot-of2 .result) (turn .loop .cache) (size turn)
-          (omega (arith, c .slot-of2 .ensures, slot-within (s .args .h) (l + 1) (c .before .on-path2 .result) (omega (arith, c .before .before .before .before .loop-test .taken)))),
+          (omega (
+            arith,
+            c .slot-of2 .ensures,
+            slot-within (s .args .h) (l + 1) (c .before .on-path2 .result)
+                (omega (arith, c .before .before .before .before .loop-test .taken)),
+          )),
       omega arith,
     )
 

@@ -33,7 +33,9 @@ store64-requires : tie.Need-store64-requires
 store64-requires c κs = let s = c .before .before in rw (length-set (s .args .cache .now) (73 * s .args .s + 8) 1) (omega arith)
 
 same-length : tie.Need-same-length
-same-length c = let s = c .before .before .before .before .before in c .before .before .store64 .kept .0 ∙ length-set (s .args .cache .now) (73 * s .args .s + 8) 1
+same-length c =
+    let s = c .before .before .before .before .before in
+    c .before .before .store64 .kept .0 ∙ length-set (s .args .cache .now) (73 * s .args .s + 8) 1
 
 returns : tie.Need-returns
 returns c =
@@ -41,7 +43,8 @@ returns c =
     let start = call .before .before .before in
     let a = start .args in
     call .store64 .ensures
-    ∙ slot-renewed (a .cache .now) (a .s) (a .j) (a .tag) (start .pre .0) (record { at = λ i. call .before .before .slice-known .given i .fits }) (start .pre .1)
+    ∙ slot-renewed (a .cache .now) (a .s) (a .j) (a .tag) (start .pre .0)
+    (record { at = λ i. call .before .before .slice-known .given i .fits }) (start .pre .1)
 
 pub renew-slot-spec : {M : Type 1} → statement M
 renew-slot-spec =

@@ -59,7 +59,8 @@ returns c =
     let s = start tag in
     let a = s .args in
     c .before .before .store64 .ensures
-    ∙ seal-bytes (a .keys .now) (a .line) (a .text .now) (a .major) (a .minor) (s .pre .1 .1 .0) (a .cell .now) (call .apply .last .1 .1 .1 .1 .1 .0) (tag .data-tag .result)
+    ∙ seal-bytes (a .keys .now) (a .line) (a .text .now) (a .major) (a .minor) (s .pre .1 .1 .0) (a .cell .now)
+    (call .apply .last .1 .1 .1 .1 .1 .0) (tag .data-tag .result)
     (s .pre .1 .1 .1 .1) (call .apply .ensures) (tag .data-tag .ensures)
 
 pub seal-spec : {M : Type 1} → statement M

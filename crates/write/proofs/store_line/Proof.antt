@@ -15,11 +15,13 @@ use Rattle.memory_map.proofs.Laws.{page-inside}
 use Rattle.journal.specs.Journal.{media}
 use Rattle.journal.proofs.Steps.{Ran}
 use Rattle.call_laws.specs.Walk.{missing, withPath}
+use Rattle.call_laws.specs.Line.{lineCells}
+use Rattle.call_laws.proofs.Line.{Lent}
 use Rattle.call_laws.proofs.Staged.{Staged, staged-inside}
 use Rattle.path.proofs.Ready.{Ready}
-use Rattle.write.specs.Parts.{lineCells, renewedTag, renewedBy}
+use Rattle.write.specs.Parts.{renewedTag, renewedBy}
 use Rattle.write.proofs.Held.{path-owners}
-use Rattle.write.proofs.Batch.{Lent, batch-length, staging, write-cut, write-done}
+use Rattle.write.proofs.Batch.{batch-length, staging, write-cut, write-done}
 use Rattle.write.proofs.store_line.Statement.{statement}
 use Rattle.write.proofs.store_line.Tie as tie
 
@@ -64,7 +66,8 @@ abbrev found : tie.After-path-tags → tie.After-page-of
 found c = c .before .before .before
 
 known : (c : tie.After-path-tags) → let a = start (found c) .args in
-    (l : ℕ) → l ≤ a .h → getD (c .path-tags .result) l 0 ≡ renewedTag (a .h) (a .keys .now) (a .array .now) (a .cache .now) (pageOf (a .line)) (a .block .now) l
+    (l : ℕ) → l ≤ a .h → getD (c .path-tags .result) l 0
+    ≡ renewedTag (a .h) (a .keys .now) (a .array .now) (a .cache .now) (pageOf (a .line)) (a .block .now) l
 known c l q =
     let a = start (found c) .args in
     c .path-tags .ensures l q
@@ -87,14 +90,14 @@ abbrev tagged : tie.After-gather → tie.After-path-tags
 tagged c = c .before .before .before
 
 staged : (c : tie.After-gather) → let a = start (found (tagged c)) .args in
-    Staged (a .h) (a .allowance) (a .array .now) (a .control .now) (lineCells (a .h) (a .keys .now) (a .cache .now) (a .line) (a .text .now) (a .major) (a .minor) (a .block .now))
+    Staged (a .h) (a .allowance) (a .array .now) (a .control .now)
+    (lineCells (a .h) (a .keys .now) (a .cache .now) (a .line) (a .text .now) (a .major) (a .minor) (a .block .now))
     (c .gather .last .1 .1 .1 .1 .1 .1 .1 .1 .1 .0) (c .gather .result)
 staged c =
     let tags = tagged c in
     let at = found tags in
     let a = start at .args in
-    staging (ready at) (a .keys .now) (lent at) (a .major) (a .minor) (tags .path-tags .result) (known tags) (a .allowance)
-    (c .gather .last .1 .1 .1 .1 .1 .1 .1 .1 .1 .0) (c .gather .result) (c .gather .ensures .0) (c .gather .ensures .1)
+    staging (ready at) (a .keys .now) (lent at) (a .major) (a .minor) (c .gather .ensures .0) (c .gather .ensures .1)
 
 mul-run : tie.Need-mul-run
 mul-run c = search needs
@@ -118,7 +121,8 @@ small : (c : tie.After-gather) → c .gather .result ≤ 8
 small c = let s = staged c in omega (arith, s .few, s .number)
 
 ran : (c : tie.After-run) → let g = made c in let tags = tagged g in let a = start (found tags) .args in
-    Ran (a .array .now) (g .gather .last .1 .1 .1 .1 .1 .1 .1 .1 .1 .0) (g .gather .result) (getD (tags .path-tags .result) (a .h) 0) (a .allowance)
+    Ran (a .array .now) (g .gather .last .1 .1 .1 .1 .1 .1 .1 .1 .1 .0) (g .gather .result) (getD (tags .path-tags .result) (a .h) 0)
+    (a .allowance)
     (media (c .run .last .0) (c .run .last .1 .0)) (c .run .result)
 ran c = record { left = c .run .ensures .0; number = c .run .ensures .1 }
 
@@ -144,9 +148,8 @@ returns c =
     let tags = tagged g in
     let at = found tags in
     let a = start at .args in
-    write-cut (ready at) (a .keys .now) (lent at) (a .major) (a .minor) (tags .path-tags .result) (known tags) (a .allowance)
-    (g .gather .last .1 .1 .1 .1 .1 .1 .1 .1 .1 .0) (g .gather .result) (g .gather .ensures .0) (g .gather .ensures .1)
-    _ refl (r .run .last .0) (r .run .last .1 .0) (r .run .result) (ran r) _ (c .if1 .taken)
+    write-cut (ready at) (a .keys .now) (lent at) (a .major) (a .minor) (tags .path-tags .result) (known tags) (staged g)
+    refl (ran r) _ (c .if1 .taken)
 
 -- the stores are made
 abbrev ended : tie.Else1 → tie.After-run
@@ -206,11 +209,11 @@ returns-2 c =
     let t = tags .path-tags .result in
     let b = a .block .now in
     let f : ℕ = cond (eqb (phaseOf (a .minor)) 0) 0 1 in
-    write-done (ready at) (a .keys .now) (lent at) (a .major) (a .minor) t (known tags) (a .allowance)
-    (g .gather .last .1 .1 .1 .1 .1 .1 .1 .1 .1 .0) (g .gather .result) (g .gather .ensures .0) (g .gather .ensures .1)
-    _ refl (r .run .last .0) (r .run .last .1 .0) (r .run .result) (ran r) f (test .if1 .left) (new .renew-path .last .1 .1 .1 .1 .1 .0)
+    write-done (ready at) (a .keys .now) (lent at) (a .major) (a .minor) t (known tags) (staged g)
+    refl (ran r) f (test .if1 .left) (new .renew-path .last .1 .1 .1 .1 .1 .0)
     (new .renew-path .ensures
-    ∙ ap₂ {C = List ℕ} (λ (x : List ℕ) (i : ℕ). renewedBy x (at .page-of .result) b i t (a .h)) (load .load-missing .ensures) (flag .block-flag .ensures)
+    ∙ ap₂ {C = List ℕ} (λ (x : List ℕ) (i : ℕ). renewedBy x (at .page-of .result) b i t (a .h)) (load .load-missing .ensures)
+    (flag .block-flag .ensures)
     ∙ ap (λ (p : ℕ). renewedBy (withPath (a .h) (r .run .last .0) p (suc (a .h)) (a .cache .now)) p b f t (a .h)) (at .page-of .ensures))
 
 pub store-line-spec : {M : Type 1} → statement M

@@ -1,21 +1,15 @@
 -- `write::write_line` meets its contract. Assumes nothing.
-use mathlib.Core.Path.{_≡_, sym, ap, ap₂, _∙_}
-use Prim.Native.Nat.{ℕ, suc, _<_}
+use mathlib.Core.Path.{_≡_, ap, _∙_}
+use Prim.Native.Nat.{ℕ, suc}
 use native.Mathlib.Omega.{arith}
 use borrow.Author.Needs.{needs}
-use Rattle.memory_map.specs.Map.{pageOf, placeOf}
-use Rattle.memory_map.proofs.Laws.{page-inside}
-use Rattle.counter.proofs.Laws.{below-minors}
+use Rattle.memory_map.specs.Map.{pageOf}
 use Rattle.answer.specs.declared.Answer.{Answer}
-use Rattle.cache.specs.Cache.{current}
-use Rattle.control.specs.Control.{root}
-use Rattle.calls.specs.Path.{loaded, loadPath}
-use Rattle.calls.specs.Call.{ended}
-use Rattle.path.specs.Told.{told, refusalOf}
-use Rattle.path.specs.declared.Path.{Path}
+use Rattle.calls.specs.Path.{loaded}
+use Rattle.calls.specs.Call.{buffers, ended, pathOf}
+use Rattle.path.specs.Told.{refusalOf}
 use Rattle.call_laws.specs.Walk.{missing, pathCells, withPath}
-use Rattle.path.proofs.Laws.{loaded-told, differs-told}
-use Rattle.path.proofs.Ready.{Ready}
+use Rattle.path.proofs.Ready.{Ready, Found, ready-of, walk-differs, walk-loaded, minor-small}
 use Rattle.write.proofs.Writing.{write-differs, write-full, write-stored}
 use Rattle.write.proofs.write_line.Statement.{statement}
 use Rattle.write.proofs.write_line.Tie as tie
@@ -30,18 +24,13 @@ root-requires c κs = search needs
 abbrev start : tie.After-shared-slice-known2 → tie.Start
 start c = c .before .before .before .before .before
 
-ready : (c : tie.After-shared-slice-known2) → let a = start c .args in Ready (a .h) (a .array .now) (a .control .now) (a .cache .now) (pageOf (a .line))
+ready : (c : tie.After-shared-slice-known2)
+    → let a = start c .args in Ready (a .h) (a .array .now) (a .control .now) (a .cache .now) (pageOf (a .line))
 ready c =
     let s = start c in
-    record {
-      sized = s .pre .1 .1 .1 .0;
-      control = s .pre .1 .0;
-      shaped = s .pre .1 .1 .1 .1 .0;
-      page = page-inside (s .args .h) (s .args .line) (s .pre .1 .1 .1 .1 .1 .0);
-      array-bytes = record { at = λ i. c .before .before .slice-known2 .given i .fits };
-      control-bytes = record { at = λ i. c .before .before .before .slice-known .given i .fits };
-      cache-bytes = record { at = λ i. c .before .slice-known3 .given i .fits };
-    }
+    ready-of (s .args .keys .now) (s .args .text .now) (s .pre) (record { at = λ i. c .before .before .slice-known2 .given i .fits })
+    (record { at = λ i. c .before .before .before .slice-known .given i .fits })
+    (record { at = λ i. c .before .slice-known3 .given i .fits })
 
 walk-requires : tie.Need-walk-requires
 walk-requires c κs =
@@ -52,16 +41,6 @@ walk-requires c κs =
 -- what walking the path tells
 abbrev known : tie.After-walk → tie.After-shared-slice-known2
 known c = c .before .before .before .before .before .before
-
-found : (c : tie.After-walk)
-    → let a = start (known c) .args in
-    c .walk .result ≡ told (missing (a .cache .now) (pageOf (a .line)) (suc (a .h))) (loadPath (a .h) (a .keys .now) (a .array .now) (root (a .control .now)) (pageOf (a .line)) (a .cache .now))
-found c =
-    let page = c .before .before .before .before .before in
-    let a = start (known c) .args in
-    c .walk .ensures
-    ∙ ap₂ {C = Path} (λ (p r : ℕ). told (missing (a .cache .now) p (suc (a .h))) (loadPath (a .h) (a .keys .now) (a .array .now) r p (a .cache .now)))
-    (page .page-of .ensures) (c .before .root .ensures)
 
 enum-known-path : tie.Need-enum-known-path
 enum-known-path c = search needs
@@ -87,37 +66,43 @@ returns c =
     let walk = c .before .before .before in
     let at = known walk in
     let a = start at .args in
-    let y = ready at in
-    let told = c .before .enum-told .given in
-    let l = told .0 .0 in
-    let i = told .0 .1 .0 in
-    ap (λ (r : Answer). ended r (a .array .now) (a .control .now) (a .cache .now)) (c .refused .ensures ∙ ap refusalOf (told .1))
-    ∙ write-differs (a .keys .now) (a .line) (a .text .now) (a .allowance) (start at .pre .1 .1 .0) y l i
-    (differs-told (a .h) (y .sized .flat) (a .keys .now) (a .array .now) (y .sized .array) (root (a .control .now)) (pageOf (a .line)) (y .page) (a .cache .now) (y .sized .cache)
-    (missing (a .cache .now) (pageOf (a .line)) (suc (a .h))) l i (sym (told .1) ∙ found walk))
+    let told = c .before .enum-told .given .1 in
+    ap (λ (r : Answer). ended r (a .array .now) (a .control .now) (a .cache .now)) (c .refused .ensures ∙ ap refusalOf told)
+    ∙ write-differs (a .keys .now) (a .line) (a .text .now) (a .allowance) (buffers (a .array .now) (a .control .now) (a .cache .now))
+    (walk-differs (a .keys .now) (a .line) (ready at) (start at .pre .1 .1 .0)
+    (walk .before .before .before .before .before .page-of .ensures)
+    (walk .before .root .ensures) (walk .walk .ensures) told)
 
 -- the path is loaded
 abbrev walked : tie.After-path → tie.After-walk
 walked c = c .before .before
 
-counted : (c : tie.After-path)
-    → let a = start (known (walked c)) .args in
-    (c .path .given .0 .0 ≡ missing (a .cache .now) (pageOf (a .line)) (suc (a .h)))
-    × (loadPath (a .h) (a .keys .now) (a .array .now) (root (a .control .now)) (pageOf (a .line)) (a .cache .now)
-    ≡ loaded (withPath (a .h) (a .array .now) (pageOf (a .line)) (suc (a .h)) (a .cache .now)) (pathCells (a .h) (a .cache .now) (pageOf (a .line)) (suc (a .h))))
-counted c =
-    let at = known (walked c) in
+loads : (c : tie.After-path)
+    → let a = start (known (walked c)) .args in let p = pageOf (a .line) in
+    (c .path .given .0 .0 ≡ missing (a .cache .now) p (suc (a .h)))
+    × (pathOf (a .keys .now) (a .line) (buffers (a .array .now) (a .control .now) (a .cache .now))
+    ≡ loaded (withPath (a .h) (a .array .now) p (suc (a .h)) (a .cache .now)) (pathCells (a .h) (a .cache .now) p (suc (a .h))))
+loads c =
+    let walk = walked c in
+    let at = known walk in
     let a = start at .args in
-    let y = ready at in
-    loaded-told (a .h) (y .sized .flat) (a .keys .now) (a .array .now) (y .sized .array) (root (a .control .now)) (pageOf (a .line)) (y .page) (a .cache .now) (y .sized .cache)
-    (missing (a .cache .now) (pageOf (a .line)) (suc (a .h))) (c .path .given .0 .0) (sym (c .path .given .1) ∙ found (walked c))
+    walk-loaded (a .keys .now) (a .line) (ready at) (start at .pre .1 .1 .0)
+    (walk .before .before .before .before .before .page-of .ensures)
+    (walk .before .root .ensures) (walk .walk .ensures) (c .path .given .1)
 
 line-counter-requires : tie.Need-line-counter-requires
 line-counter-requires c κs = search needs
 
--- the counter that was found
+-- and the counter found
 abbrev seen : tie.After-line-counter → tie.After-path
 seen c = c .before .before .before .before
+
+found : (c : tie.After-line-counter)
+    → let a = start (known (walked (seen c))) .args in
+    Found (a .h) (a .keys .now) (a .array .now) (a .control .now) (a .cache .now) (a .line) (c .line-counter .result)
+found c =
+    let at = known (walked (seen c)) in
+    record { ready = ready at; deep = start at .pre .1 .1 .0; path = loads (seen c) .1; counter = c .line-counter .ensures }
 
 same-length-4 : tie.Need-same-length-4
 same-length-4 c = search needs
@@ -131,22 +116,14 @@ same-length-6 c = search needs
 returns-2 : tie.Need-returns-2
 returns-2 c =
     let count = c .before .before in
-    let path = seen count in
-    let at = known (walked path) in
-    let a = start at .args in
-    write-full (a .keys .now) (a .line) (a .text .now) (a .allowance) (start at .pre .1 .1 .0) (ready at) (counted path .1) (count .line-counter .result .major)
-    (count .line-counter .result .minor) (count .line-counter .ensures .major-is) (count .line-counter .ensures .minor-is) (c .if1 .taken)
-
-small : (c : tie.After-line-counter) → c .line-counter .result .minor < 128
-small c =
-    let a = start (known (walked (seen c))) .args in
-    omega (arith, c .line-counter .ensures .minor-is, below-minors (current (a .h) (a .array .now) (a .cache .now) 0 (pageOf (a .line))) .at (placeOf (a .line)))
+    let a = start (known (walked (seen count))) .args in
+    write-full (found count) (a .text .now) (a .allowance) (c .if1 .taken)
 
 abbrev count : tie.After-struct-known2 → tie.After-line-counter
 count c = c .before .before .before .before .before .before
 
 add-raise : tie.Need-add-raise
-add-raise c = omega (arith, small (count c))
+add-raise c = omega (arith, minor-small (found (count c)))
 
 raise-requires : tie.Need-raise-requires
 raise-requires c κs =
@@ -154,8 +131,8 @@ raise-requires c κs =
     let at = known (walked path) in
     let y = ready at in
     let s = start at in (
-      (s .pre .0, (s .pre .1 .1 .1 .1 .1 .1, omega (arith, small (count c), c .before .before .before .before .if1 .left))),
-      (y .control, (y .sized, (y .shaped, (s .pre .1 .1 .1 .1 .1 .0, counted path .0)))),
+      (s .pre .0, (s .pre .1 .1 .1 .1 .1 .1, omega (arith, minor-small (found (count c)), c .before .before .before .before .if1 .left))),
+      (y .control, (y .sized, (y .shaped, (s .pre .1 .1 .1 .1 .1 .0, loads path .0)))),
     )
 
 same-length-7 : tie.Need-same-length-7
@@ -170,13 +147,9 @@ same-length-9 c = search needs
 returns-3 : tie.Need-returns-3
 returns-3 c =
     let call = c .before .before .before .before .before .before in
-    let found = count (call .before) in
-    let path = seen found in
-    let at = known (walked path) in
-    let a = start at .args in
-    call .raise .ensures
-    ∙ write-stored (a .keys .now) (a .line) (a .text .now) (a .allowance) (start at .pre .1 .1 .0) (ready at) (counted path .1) (found .line-counter .result .major)
-    (found .line-counter .result .minor) (found .line-counter .ensures .major-is) (found .line-counter .ensures .minor-is)
+    let counted = count (call .before) in
+    let a = start (known (walked (seen counted))) .args in
+    call .raise .ensures ∙ write-stored (found counted) (a .text .now) (a .allowance)
     (call .before .before .before .before .before .if1 .left)
 
 pub write-line-spec : {M : Type 1} → statement M

@@ -1,0 +1,90 @@
+-- The cells of a write at a counter, behind those of its path: they are sound, and at most two. Assumes nothing.
+use mathlib.Core.Path.{_≡_, ap, _∙_}
+use mathlib.Core.Bool.{Bool, true, false, cond}
+use mathlib.Core.List.{List, [], _∷_, _++_}
+use Prim.Native.Nat.{ℕ, _+_, _≤_, _<_, zero-le}
+use native.Mathlib.Nat.{le-refl}
+use native.Mathlib.Omega.{arith}
+use lib.Dec.{eqb, lit<}
+use lib.ListN.{length, length-append}
+use Rattle.words.proofs.Digits.{Below, below-append, below-cons, below-digits, length-digits}
+use Rattle.memory_map.specs.Map.{lines, pageOf, cellOf, InMap}
+use Rattle.memory_map.specs.Map.Item.{line}
+use Rattle.memory_map.proofs.Laws.{cell-within, page-node}
+use Rattle.counter.specs.Counter.{phaseOf}
+use Rattle.pad.specs.Pad.{pad, xorBytes}
+use Rattle.pad.proofs.Nonce.{length-pad, below-pad}
+use Rattle.pad.proofs.Xor.{length-xor, below-xor}
+use Rattle.tag.specs.Tag.{dataTag}
+use Rattle.control.specs.Control.{Cell}
+use Rattle.journal.proofs.Each.{Each, none, more, each-append}
+use Rattle.calls.specs.Path.{nodeCell}
+use Rattle.calls.specs.Read.{sideBytes}
+use Rattle.call_laws.specs.Line.{lineCell, blockCells}
+use Rattle.call_laws.proofs.Loads.{Sound, sound-node}
+
+-- a line of the map, its text and the counter block to be
+pub record Lent (h n : ℕ) (text b : List ℕ) : Type 0 where
+  pub inside : n < lines h
+  pub full : length text ≡ 64
+  pub text-bytes : Below 256 text
+  pub wide : length b ≡ 64
+  pub block-bytes : Below 256 b
+
+-- ---- the data cell
+
+module _ (keys : List ℕ) (n : ℕ) (text : List ℕ) (ma mi : ℕ) where
+  abbrev sealed : List ℕ
+  sealed = xorBytes text (pad keys n ma mi)
+
+  pub sealed-length : length text ≡ 64 → length sealed ≡ 64
+  sealed-length e = length-xor text (pad keys n ma mi) (rw (length-pad, e) (le-refl 64)) ∙ e
+
+  pub line-cell-length : length text ≡ 64 → length (lineCell keys n text ma mi .bytes) ≡ 72
+  unfolding lineCell
+  line-cell-length e =
+      length-append sealed (sideBytes keys sealed n ma mi)
+      ∙ omega (arith, sealed-length e, length-digits 256 7 (dataTag keys sealed n ma mi))
+
+  line-sound : {h : ℕ} {b : List ℕ} → Lent h n text b → Sound h (lineCell keys n text ma mi)
+  unfolding lineCell InMap cellOf
+  line-sound {h} v =
+      record {
+        inside = cell-within h (line n) (v .inside);
+        size = line-cell-length (v .full);
+        bytes =
+            below-append sealed (sideBytes keys sealed n ma mi) (below-xor text (pad keys n ma mi) (v .text-bytes) (below-pad keys n ma mi))
+            (below-cons (omega arith) (below-digits 256 7 _ (lit< tt)));
+      }
+
+-- ---- the counter block
+
+pub block-few : (h p mi : ℕ) (b : List ℕ) → length (blockCells h p mi b) ≤ 1
+unfolding blockCells
+block-few h p mi b = go (eqb (phaseOf mi) 0)
+  where
+    go : (t : Bool) → length (cond t (nodeCell h 0 p b ∷ []) []) ≤ 1
+    go true = le-refl 1
+    go false = zero-le
+
+block-sound : {h n : ℕ} {text b : List ℕ} (mi : ℕ) → Lent h n text b → Each (Sound h) (blockCells h (pageOf n) mi b)
+unfolding blockCells
+block-sound {h} {n} {text} {b} mi v = go (eqb (phaseOf mi) 0)
+  where
+    go : (t : Bool) → Each (Sound h) (cond t (nodeCell h 0 (pageOf n) b ∷ []) [])
+    go true = more (sound-node h 0 (pageOf n) b (page-node h n (v .inside)) (v .wide) (v .block-bytes)) none
+    go false = none
+
+-- ---- both, behind the cells of the path
+
+module _ (h : ℕ) (keys : List ℕ) (n : ℕ) (text : List ℕ) (ma mi : ℕ) (b : List ℕ) (x : List Cell) where
+  abbrev all : List Cell
+  all = x ++ blockCells h (pageOf n) mi b ++ (lineCell keys n text ma mi ∷ [])
+
+  pub all-length : length all ≡ length x + length (blockCells h (pageOf n) mi b) + 1
+  all-length =
+      let y = blockCells h (pageOf n) mi b in
+      length-append (x ++ y) (lineCell keys n text ma mi ∷ []) ∙ ap (λ (m : ℕ). m + 1) (length-append x y)
+
+  pub all-sound : Lent h n text b → Each (Sound h) x → Each (Sound h) all
+  all-sound v s = each-append (each-append s (block-sound mi v)) (more (line-sound keys n text ma mi v) none)

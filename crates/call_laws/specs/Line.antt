@@ -1,0 +1,26 @@
+-- The cells of a write, by the counter that its line gets: for laws and for the contracts of its steps. Assumes nothing.
+use Prim.Native.Nat.{ℕ, suc}
+use mathlib.Core.Bool.{cond}
+use mathlib.Core.List.{List, [], _∷_, _++_}
+use lib.Dec.{eqb}
+use Rattle.memory_map.specs.Map.{pageOf}
+use Rattle.counter.specs.Counter.{phaseOf}
+use Rattle.pad.specs.Pad.{pad, xorBytes}
+use Rattle.control.specs.Control.{Cell}
+use Rattle.calls.specs.Path.{nodeCell}
+use Rattle.calls.specs.Read.{sideBytes}
+use Rattle.call_laws.specs.Walk.{pathCells}
+
+-- the data cell of a text at a counter
+unfoldable pub lineCell : List ℕ → ℕ → List ℕ → ℕ → ℕ → Cell
+lineCell keys line text ma mi =
+    let b = xorBytes text (pad keys line ma mi) in record { number = line; bytes = b ++ sideBytes keys b line ma mi }
+
+-- the block b, of page p, joins the batch where its new minor is a multiple of 4
+unfoldable pub blockCells : ℕ → ℕ → ℕ → List ℕ → List Cell
+blockCells h p mi b = cond (eqb (phaseOf mi) 0) (nodeCell h 0 p b ∷ []) []
+
+-- the batch: the path's cells, the block, the data cell
+unfoldable pub lineCells : ℕ → List ℕ → List ℕ → ℕ → List ℕ → ℕ → ℕ → List ℕ → List Cell
+lineCells h keys c line text ma mi b =
+    pathCells h c (pageOf line) (suc h) ++ blockCells h (pageOf line) mi b ++ (lineCell keys line text ma mi ∷ [])
