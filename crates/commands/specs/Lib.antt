@@ -1,0 +1,4 @@
+pub mod Decimal
+pub mod Language
+pub mod Printed
+pub mod Machine

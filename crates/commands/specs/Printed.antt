@@ -1,0 +1,63 @@
+-- What the bench program prints for a command: bytes, with the newline. Assumes nothing.
+use Prim.Native.Nat.{ℕ, _+_}
+use mathlib.Core.Path.{_≡_}
+use mathlib.Core.List.{List, [], _∷_, _++_}
+use lib.ListN.{length, take}
+use Rattle.answer.specs.declared.Answer.{Answer}
+use Rattle.answer.specs.declared.Answer.the-variants.{Done, Blank, Cut, Refused}
+use Rattle.commands.specs.declared.Command.{Command}
+use Rattle.commands.specs.declared.Command.the-variants.{Write, Read, Recover, Allow, Unknown}
+use Rattle.commands.specs.Decimal.{printed}
+
+-- `w LINE`, `r LINE`, `p`; any other line is `?`
+unfoldable pub commandText : Command → List ℕ
+commandText (Write l b) = 119 ∷ 32 ∷ printed l
+commandText (Read l) = 114 ∷ 32 ∷ printed l
+commandText Recover = 112 ∷ []
+commandText (Allow n) = []
+commandText Unknown = 63 ∷ []
+
+-- ` done STORES`, ` blank STORES`, ` cut STORES`, ` refused NUMBER`
+unfoldable pub answerText : Answer → List ℕ
+answerText (Done k t) = 32 ∷ 100 ∷ 111 ∷ 110 ∷ 101 ∷ 32 ∷ printed k
+answerText (Blank k) = 32 ∷ 98 ∷ 108 ∷ 97 ∷ 110 ∷ 107 ∷ 32 ∷ printed k
+answerText (Cut k) = 32 ∷ 99 ∷ 117 ∷ 116 ∷ 32 ∷ printed k
+answerText (Refused n k a b) = 32 ∷ 114 ∷ 101 ∷ 102 ∷ 117 ∷ 115 ∷ 101 ∷ 100 ∷ 32 ∷ printed n
+
+-- of a done or blank read also the first byte, x; of a done recovery the sum
+unfoldable pub readText : Answer → ℕ → List ℕ
+readText (Done k t) x = 32 ∷ printed x
+readText (Blank k) x = 32 ∷ printed x
+readText (Cut k) x = []
+readText (Refused n k a b) x = []
+
+unfoldable pub recoverText : Answer → List ℕ
+recoverText (Done k t) = 32 ∷ printed t
+recoverText (Blank k) = []
+recoverText (Cut k) = []
+recoverText (Refused n k a b) = []
+
+unfoldable pub endText : Command → Answer → ℕ → List ℕ
+endText (Write l b) a x = []
+endText (Read l) a x = readText a x
+endText Recover a x = recoverText a
+endText (Allow n) a x = []
+endText Unknown a x = []
+
+-- the line of a call
+unfoldable pub callLine : Command → Answer → ℕ → List ℕ
+callLine c a x = commandText c ++ answerText a ++ endText c a x ++ (10 ∷ [])
+
+-- `k` prints nothing, any other line `?`
+unfoldable pub lineOf : Command → Answer → ℕ → List ℕ
+lineOf (Write l b) a x = callLine (Write l b) a x
+lineOf (Read l) a x = callLine (Read l) a x
+lineOf Recover a x = callLine Recover a x
+lineOf (Allow n) a x = []
+lineOf Unknown a x = 63 ∷ 10 ∷ []
+
+-- text that is written behind the first `at` bytes of a buffer s leaves t, and ends at r
+pub record Appended (s t : List ℕ) (at r : ℕ) (text : List ℕ) : Type 0 where
+  pub size : length t ≡ length s
+  pub bytes : take r t ≡ take at s ++ text
+  pub end : r ≡ at + length text
