@@ -50,6 +50,9 @@ fed s [] = s
 fed s (b ∷ bs) = fed (next s b) bs
 
 -- the command at the end of the line
+unfoldable pub noNumber : ℕ → Command
+noNumber c = cond (eqb c 112) Recover Unknown
+
 unfoldable pub oneNumber : ℕ → ℕ → Command
 oneNumber c n = cond (eqb c 114) (Read n) (cond (eqb c 107) (Allow n) Unknown)
 
@@ -58,7 +61,7 @@ twoNumbers c n b = cond (eqb c 119) (cond (leb b 255) (Write n b) Unknown) Unkno
 
 unfoldable pub found : Parser → Command
 found Start = Unknown
-found (Letter c) = cond (eqb c 112) Recover Unknown
+found (Letter c) = noNumber c
 found (First c n) = given n (oneNumber c)
 found (Second c n m) = given m (twoNumbers c n)
 found Other = Unknown

@@ -3,8 +3,8 @@ ghost use mathlib.Core.Path.{_≡_};
 ghost use Prim.Native.Nat.{_+_, _≤_};
 ghost use lib.ListN.{length, take, drop};
 ghost use Rattle.commands.specs.Decimal.{printed};
-ghost use Rattle.commands.specs.Language.{commandOf};
-ghost use Rattle.commands.specs.Machine.{digitAfter, withDigit, afterByte, secondPart, afterSpace, next, oneNumber, twoNumbers, found};
+ghost use Rattle.commands.specs.Language.{given, commandOf};
+ghost use Rattle.commands.specs.Machine.{digitAfter, withDigit, afterByte, secondPart, afterSpace, next, noNumber, oneNumber, twoNumbers, found};
 ghost use Rattle.commands.specs.Printed.{commandText, answerText, readText, recoverText, endText, callLine, lineOf, Appended};
 use answer::Answer;
 
@@ -145,6 +145,15 @@ pub fn step(parser: Parser, b: u8) -> Parser
     }
 }
 
+fn no_number(letter: u8) -> Command
+    ensures { λ r. ⌜ r ≡ noNumber letter ⌝ }
+{
+    if letter == b'p' {
+        return Command::Recover;
+    }
+    Command::Unknown
+}
+
 fn one_number(letter: u8, n: u64) -> Command
     ensures { λ r. ⌜ r ≡ oneNumber letter n ⌝ }
 {
@@ -172,33 +181,39 @@ fn two_numbers(letter: u8, n: u64, b: u64) -> Command
     Command::Unknown
 }
 
+fn end_first(letter: u8, number: Number) -> Command
+    ensures { λ r. ⌜ r ≡ given number (oneNumber letter) ⌝ }
+{
+    match number {
+        Number::Empty => Command::Unknown,
+        Number::Value(n) => one_number(letter, n),
+        Number::Bad => Command::Unknown,
+    }
+}
+
+fn end_second(letter: u8, first: u64, number: Number) -> Command
+    ensures { λ r. ⌜ r ≡ given number (twoNumbers letter first) ⌝ }
+{
+    match number {
+        Number::Empty => Command::Unknown,
+        Number::Value(b) => two_numbers(letter, first, b),
+        Number::Bad => Command::Unknown,
+    }
+}
+
 // The command at the end of the line.
 pub fn finish(parser: Parser) -> Command
     ensures { λ r. ⌜ r ≡ found parser ⌝ }
 {
     match parser {
         Parser::Start => Command::Unknown,
-        Parser::Letter { letter } => {
-            if letter == b'p' {
-                Command::Recover
-            } else {
-                Command::Unknown
-            }
-        }
-        Parser::First { letter, number } => match number {
-            Number::Empty => Command::Unknown,
-            Number::Value(n) => one_number(letter, n),
-            Number::Bad => Command::Unknown,
-        },
+        Parser::Letter { letter } => no_number(letter),
+        Parser::First { letter, number } => end_first(letter, number),
         Parser::Second {
             letter,
             first,
             number,
-        } => match number {
-            Number::Empty => Command::Unknown,
-            Number::Value(b) => two_numbers(letter, first, b),
-            Number::Bad => Command::Unknown,
-        },
+        } => end_second(letter, first, number),
         Parser::Other => Command::Unknown,
     }
 }
