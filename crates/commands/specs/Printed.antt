@@ -9,14 +9,6 @@ use Rattle.commands.specs.declared.Command.{Command}
 use Rattle.commands.specs.declared.Command.the-variants.{Write, Read, Recover, Allow, Unknown}
 use Rattle.commands.specs.Decimal.{printed}
 
--- `w LINE`, `r LINE`, `p`; any other line is `?`
-unfoldable pub commandText : Command → List ℕ
-commandText (Write l b) = 119 ∷ 32 ∷ printed l
-commandText (Read l) = 114 ∷ 32 ∷ printed l
-commandText Recover = 112 ∷ []
-commandText (Allow n) = []
-commandText Unknown = 63 ∷ []
-
 -- ` done STORES`, ` blank STORES`, ` cut STORES`, ` refused NUMBER`
 unfoldable pub answerText : Answer → List ℕ
 answerText (Done k t) = 32 ∷ 100 ∷ 111 ∷ 110 ∷ 101 ∷ 32 ∷ printed k
@@ -37,22 +29,11 @@ recoverText (Blank k) = []
 recoverText (Cut k) = []
 recoverText (Refused n k a b) = []
 
-unfoldable pub endText : Command → Answer → ℕ → List ℕ
-endText (Write l b) a x = []
-endText (Read l) a x = readText a x
-endText Recover a x = recoverText a
-endText (Allow n) a x = []
-endText Unknown a x = []
-
--- the line of a call
-unfoldable pub callLine : Command → Answer → ℕ → List ℕ
-callLine c a x = commandText c ++ answerText a ++ endText c a x ++ (10 ∷ [])
-
--- `k` prints nothing, any other line `?`
+-- command, line, answer, stores; 119 is `w`, 114 `r`, 112 `p`; `k` prints nothing, and any other line `?`
 unfoldable pub lineOf : Command → Answer → ℕ → List ℕ
-lineOf (Write l b) a x = callLine (Write l b) a x
-lineOf (Read l) a x = callLine (Read l) a x
-lineOf Recover a x = callLine Recover a x
+lineOf (Write l b) a x = 119 ∷ 32 ∷ printed l ++ answerText a ++ (10 ∷ [])
+lineOf (Read l) a x = 114 ∷ 32 ∷ printed l ++ answerText a ++ readText a x ++ (10 ∷ [])
+lineOf Recover a x = 112 ∷ answerText a ++ recoverText a ++ (10 ∷ [])
 lineOf (Allow n) a x = []
 lineOf Unknown a x = 63 ∷ 10 ∷ []
 

@@ -1,11 +1,12 @@
 // The bench program's commands: parsing a line byte by byte, and printing what a call answers.
 ghost use mathlib.Core.Path.{_≡_};
-ghost use Prim.Native.Nat.{_+_, _≤_};
+ghost use mathlib.Core.List.{_++_};
+ghost use Prim.Native.Nat.{_+_, _≤_, _<_};
 ghost use lib.ListN.{length, take, drop};
 ghost use Rattle.commands.specs.Decimal.{printed};
 ghost use Rattle.commands.specs.Language.{given, commandOf};
 ghost use Rattle.commands.specs.Machine.{digitAfter, withDigit, afterByte, secondPart, afterSpace, next, noNumber, oneNumber, twoNumbers, found};
-ghost use Rattle.commands.specs.Printed.{commandText, answerText, readText, recoverText, endText, callLine, lineOf, Appended};
+ghost use Rattle.commands.specs.Printed.{answerText, readText, recoverText, lineOf, Appended};
 use answer::Answer;
 
 pub enum Command {
@@ -231,4 +232,43 @@ pub fn parse(line: &[u8]) -> Command
         i += 1;
     }
     finish(parser)
+}
+
+// Spells a number at the end of 20 bytes, and tells where it starts.
+fn spell(n: u64, s: &mut [u8]) -> usize
+    requires { ⌜ length (now s) ≡ 20 ⌝ }
+    ensures { λ r. ⌜ (r < 20) × (drop r (now (s .exit)) ≡ printed n) ⌝ }
+{
+    let mut i: usize = 19;
+    let mut x = n;
+    while 10 <= x {
+        s[i] = 48 + (x % 10) as u8;
+        x = x / 10;
+        i -= 1;
+    }
+    s[i] = 48 + (x % 10) as u8;
+    i
+}
+
+// Writes text behind the first bytes of a buffer, and tells where it ends.
+fn append(buf: &mut [u8], at: usize, text: &[u8]) -> usize
+    requires { ⌜ at + length (now text) ≤ length (now buf) ⌝ }
+    ensures { λ r. ⌜ Appended (now (buf .entry)) (now (buf .exit)) at r (now (text .entry)) ⌝ }
+{
+    let n = text.len();
+    words::copy(buf, at, text, 0, n);
+    at + n
+}
+
+// The same, and a number behind it.
+fn append_number(buf: &mut [u8], at: usize, text: &[u8], n: u64) -> usize
+    requires { ⌜ at + (length (now text) + 20) ≤ length (now buf) ⌝ }
+    ensures { λ r. ⌜ Appended (now (buf .entry)) (now (buf .exit)) at r (now (text .entry) ++ printed n) ⌝ }
+    ensures { λ r. ⌜ r ≤ at + (length (now (text .entry)) + 20) ⌝ }
+{
+    let middle = append(buf, at, text);
+    let mut digits = [0u8; 20];
+    let i = spell(n, &mut digits);
+    words::copy(buf, middle, &digits, i, 20 - i);
+    middle + (20 - i)
 }
