@@ -84,3 +84,17 @@ appended-number {t = t} {u = u} ds {p = p} n i a size less spelled room e =
     let all : part ds i (20 - i) ≡ printed n = take-all (20 - i) (drop i ds) (omega arith) ∙ spelled in
     appended-on a
     (appended-put t p (printed n) u (p + (20 - i)) (omega arith) (e ∙ ap (λ (l : List ℕ). put t p l) all) (ap (λ (k : ℕ). p + k) (sym long)))
+
+pub appended-none : (s : List ℕ) (at : ℕ) → Appended s s at at []
+appended-none s at = record { size = refl; bytes = sym (append-nil (take at s)); end = omega arith }
+
+pub retold : {s t : List ℕ} {at r : ℕ} {xs ys : List ℕ} → xs ≡ ys → Appended s t at r xs → Appended s t at r ys
+retold {s} {t} {at} {r} e a = subst (λ (l : List ℕ). Appended s t at r l) e a
+
+-- three and four texts, one behind the other from the start of a buffer
+module _ {s t u v : List ℕ} {p q r : ℕ} {xs ys zs : List ℕ} (a : Appended s t 0 p xs) (b : Appended t u p q ys) (c : Appended u v q r zs) where
+  pub three : take r v ≡ xs ++ ys ++ zs
+  three = appended-all (appended-on (appended-on a b) c)
+
+  pub four : {w : List ℕ} {i : ℕ} {ws : List ℕ} → Appended v w r i ws → take i w ≡ xs ++ ys ++ zs ++ ws
+  four d = appended-all (appended-on (appended-on (appended-on a b) c) d)

@@ -29,11 +29,21 @@ recoverText (Blank k) = []
 recoverText (Cut k) = []
 recoverText (Refused n k a b) = []
 
--- command, line, answer, stores; 119 is `w`, 114 `r`, 112 `p`; `k` prints nothing, and any other line `?`
+-- command, line, answer, stores; 119 is `w`, 114 `r`, 112 `p`
+abbrev pub writeLine : ℕ → Answer → List ℕ
+writeLine l a = 119 ∷ 32 ∷ printed l ++ answerText a ++ (10 ∷ [])
+
+abbrev pub readLine : ℕ → Answer → ℕ → List ℕ
+readLine l a x = 114 ∷ 32 ∷ printed l ++ answerText a ++ readText a x ++ (10 ∷ [])
+
+abbrev pub recoverLine : Answer → List ℕ
+recoverLine a = 112 ∷ answerText a ++ recoverText a ++ (10 ∷ [])
+
+-- `k` prints nothing, and any other line `?`
 unfoldable pub lineOf : Command → Answer → ℕ → List ℕ
-lineOf (Write l b) a x = 119 ∷ 32 ∷ printed l ++ answerText a ++ (10 ∷ [])
-lineOf (Read l) a x = 114 ∷ 32 ∷ printed l ++ answerText a ++ readText a x ++ (10 ∷ [])
-lineOf Recover a x = 112 ∷ answerText a ++ recoverText a ++ (10 ∷ [])
+lineOf (Write l b) a x = writeLine l a
+lineOf (Read l) a x = readLine l a x
+lineOf Recover a x = recoverLine a
 lineOf (Allow n) a x = []
 lineOf Unknown a x = 63 ∷ 10 ∷ []
 
