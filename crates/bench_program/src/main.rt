@@ -223,7 +223,7 @@ fn take_bytes(
 }
 
 // One read of the standard input.
-struct Turn {
+struct Taken {
     session: Session,
     ended: bool,
 }
@@ -234,11 +234,11 @@ fn turn(
     array: &mut [u8],
     cache: &mut [u8],
     session: Session,
-) -> Turn {
+) -> Taken {
     let mut input = io::buffer();
     let got = libc::read(STDIN_FILENO, &mut input);
     let n = io::count(got, &input);
-    Turn {
+    Taken {
         session: take_bytes(keys, control, array, cache, session, &input[..n]),
         ended: n == 0,
     }
