@@ -1,6 +1,7 @@
 -- What the bench program does: a command run on the module, and the bytes of its input. Assumes nothing.
 use Prim.Native.Nat.{ℕ, _-_, _^_}
-use mathlib.Core.Bool.{cond}
+use mathlib.Core.Path.{_≡_}
+use mathlib.Core.Bool.{Bool, true, false, cond}
 use mathlib.Core.List.{List, [], _∷_}
 use lib.Dec.{eqb}
 use lib.ListN.{length, getD, replicate}
@@ -13,7 +14,7 @@ use Rattle.calls.specs.Recovery.{recover}
 use Rattle.commands.specs.declared.Command.{Command}
 use Rattle.commands.specs.declared.Command.the-variants.{Write, Read, Recover, Allow, Unknown}
 use Rattle.commands.specs.declared.Parser.{Parser}
-use Rattle.commands.specs.declared.Parser.the-variants.{Start}
+use Rattle.commands.specs.declared.Parser.the-variants.{Start, Letter, First, Second, Other}
 use Rattle.commands.specs.Machine.{next, found}
 use Rattle.commands.specs.Printed.{lineOf}
 
@@ -97,6 +98,30 @@ unfoldable pub bytesTaken : List ℕ → State → List ℕ → State
 bytesTaken keys s [] = s
 bytesTaken keys s (b ∷ bs) = bytesTaken keys (byteTaken keys s b) bs
 
+-- a last line without a newline counts if it is not empty
+unfoldable pub hasLine : Parser → Bool
+hasLine Start = false
+hasLine (Letter c) = true
+hasLine (First c n) = true
+hasLine (Second c n m) = true
+hasLine Other = true
+
+unfoldable pub inputEnded : List ℕ → State → State
+inputEnded keys s = cond (hasLine (s .parser)) (lineEnded keys s) s
+
 -- the state of a session over lent buffers
 abbrev pub stateOf : Parser → ℕ → List ℕ → List ℕ → List ℕ → State
 stateOf p n a k c = record { parser = p; allowance = n; left = buffers a k c }
+
+abbrev pub started : Module → State
+started m = record { parser = Start; allowance = unlimited; left = m }
+
+-- some bytes were read, and taken
+pub record Took (keys : List ℕ) (s t : State) : Type 0 where
+  pub read : List ℕ
+  pub taken : t ≡ bytesTaken keys s read
+
+-- some input was read to its end, and taken: nothing else changed the module
+pub record Served (keys : List ℕ) (m after : Module) : Type 0 where
+  pub input : List ℕ
+  pub left : after ≡ inputEnded keys (bytesTaken keys (started m) input) .left

@@ -5,7 +5,7 @@ ghost use lib.ListN.{length, take};
 ghost use Rattle.answer.specs.declared.Answer.the-variants.{Done};
 ghost use Rattle.commands.specs.declared.Command.the-variants.{Write, Read, Recover};
 ghost use Rattle.calls.specs.Call.{buffers};
-ghost use Rattle.bench_program.specs.Session.{ranTo, ran as ranOf, settled, allowanceAfter, toldTo, told, stateOf, lineEnded, byteTaken, bytesTaken};
+ghost use Rattle.bench_program.specs.Session.{ranTo, ran as ranOf, settled, allowanceAfter, toldTo, told, stateOf, lineEnded, byteTaken, bytesTaken, hasLine, Took, Served};
 use answer::Answer;
 use commands::Command;
 use commands::Parser;
@@ -222,7 +222,7 @@ fn take_bytes(
     state
 }
 
-// One read of the standard input.
+// One read of the standard input: whatever bytes it gave, they were taken.
 struct Taken {
     session: Session,
     ended: bool,
@@ -234,7 +234,11 @@ fn turn(
     array: &mut [u8],
     cache: &mut [u8],
     session: Session,
-) -> Taken {
+) -> Taken
+    ensures { λ r. ⌜ Took (now (keys .entry))
+        (stateOf (session .parser) (session .allowance) (now (array .entry)) (now (control .entry)) (now (cache .entry)))
+        (stateOf (r .session .parser) (r .session .allowance) (now (array .exit)) (now (control .exit)) (now (cache .exit))) ⌝ }
+{
     let mut input = io::buffer();
     let got = libc::read(STDIN_FILENO, &mut input);
     let n = io::count(got, &input);
@@ -244,16 +248,31 @@ fn turn(
     }
 }
 
-fn is_start(parser: Parser) -> bool {
-    if let Parser::Start = parser {
-        true
-    } else {
-        false
+// Whether a last line is there.
+fn has_line(parser: Parser) -> bool
+    ensures { λ r. ⌜ r ≡ hasLine parser ⌝ }
+{
+    match parser {
+        Parser::Start => false,
+        Parser::Letter { letter: _ } => true,
+        Parser::First {
+            letter: _,
+            number: _,
+        } => true,
+        Parser::Second {
+            letter: _,
+            first: _,
+            number: _,
+        } => true,
+        Parser::Other => true,
     }
 }
 
 // Takes the input to its end. A proved loop has to end, so it counts its turns down, from a number that no run uses up.
-fn serve(keys: &[u8], control: &mut [u8], array: &mut [u8], cache: &mut [u8]) {
+fn serve(keys: &[u8], control: &mut [u8], array: &mut [u8], cache: &mut [u8])
+    ensures { λ _. ⌜ Served (now (keys .entry)) (buffers (now (array .entry)) (now (control .entry)) (now (cache .entry)))
+        (buffers (now (array .exit)) (now (control .exit)) (now (cache .exit))) ⌝ }
+{
     let mut session = Session {
         parser: Parser::Start,
         allowance: u64::MAX,
@@ -263,13 +282,13 @@ fn serve(keys: &[u8], control: &mut [u8], array: &mut [u8], cache: &mut [u8]) {
         let taken = turn(keys, control, array, cache, session);
         let after = taken.session;
         session = after;
-        if taken.ended {
-            break;
-        }
         turns -= 1;
+        if taken.ended {
+            turns = 0;
+        }
     }
     let parser = session.parser;
-    if !is_start(parser) {
+    if has_line(parser) {
         end_line(keys, control, array, cache, session);
     }
 }

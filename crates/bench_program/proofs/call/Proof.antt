@@ -43,7 +43,7 @@ same-length-3 c = search needs
 
 returns : tie.Need-returns
 unfolding ran
-returns c = 
+returns c =
     let call = c .before .before .before .before .before .before in
     let at = call .before .before .before .before .before in
     let a = at .before .before .before .before .before .before .args in
@@ -60,7 +60,7 @@ same-length-6 c = search needs
 
 returns-2 : tie.Need-returns-2
 unfolding ran
-returns-2 c = 
+returns-2 c =
     let call = c .before .before .before .before .before .before in
     let at = call .before .before .before .before .before in
     let a = at .before .before .before .before .before .before .args in
@@ -77,7 +77,7 @@ same-length-9 c = search needs
 
 returns-3 : tie.Need-returns-3
 unfolding ran
-returns-3 c = 
+returns-3 c =
     let call = c .before .before .before .before .before .before in
     let at = call .before .before .before .before in
     let a = at .before .before .before .before .before .before .args in
@@ -85,13 +85,13 @@ returns-3 c =
 
 returns-4 : tie.Need-returns-4
 unfolding ran
-returns-4 c = 
+returns-4 c =
     let a = c .before .before .before .before .before .before .args in
     ap (λ (z : Command). ran (a .keys .now) z (a .allowance) (buffers (a .array .now) (a .control .now) (a .cache .now))) (sym (c .enum-told2 .given .1))
 
 returns-5 : tie.Need-returns-5
 unfolding ran
-returns-5 c = 
+returns-5 c =
     let a = c .before .before .before .before .before .before .args in
     ap (λ (z : Command). ran (a .keys .now) z (a .allowance) (buffers (a .array .now) (a .control .now) (a .cache .now))) (sym (c .enum-told3 .given .1))
 

@@ -26,7 +26,7 @@ same-length-3 c = search needs
 
 returns : tie.Need-returns
 unfolding ran
-returns c = 
+returns c =
     ap readTo (c .before .before .before .before .before .before .before .read .ensures)
 
 pub call-read-spec : {M : Type 1} → statement M

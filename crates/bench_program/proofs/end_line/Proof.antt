@@ -21,7 +21,7 @@ array-share-prefix-line : tie.Need-array-share-prefix-line
 array-share-prefix-line c = search needs
 
 slice-aggregate-write-all : tie.Need-slice-aggregate-write-all
-slice-aggregate-write-all c = 
+slice-aggregate-write-all c =
     let made = c .before .before .before .before .before .before .before .before in
     sym (length-take-le (made .run .result) (made .run .last .1 .1 .1 .1 .1 .1 .0) (omega (arith, made .run .ensures .1, made .run .kept .1 .1 .1 .1 .1 .1 .0)))
 
@@ -41,7 +41,7 @@ same-length-3 : tie.Need-same-length-3
 same-length-3 c = search needs
 
 returns : tie.Need-returns
-returns c = 
+returns c =
     let made = c .before .before .before .before .before .before .before .before .before .before in
     let done = made .before .before .before .before .before in
     let a = done .before .before .before .before .before .args in

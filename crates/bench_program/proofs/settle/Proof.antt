@@ -21,7 +21,7 @@ same-length c = search needs
 
 returns : tie.Need-returns
 unfolding settled
-returns c = 
+returns c =
     let call = c .before .before in
     let told = call .before .before in
     let a = told .before .before .before .args in

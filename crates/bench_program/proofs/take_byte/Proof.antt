@@ -21,7 +21,7 @@ same-length-3 : tie.Need-same-length-3
 same-length-3 c = search needs
 
 returns : tie.Need-returns
-returns c = 
+returns c =
     let call = c .before .before .before .before .before .before in
     let test = call .before .before .before .before in
     let a = test .before .before .before .before .before .args in
@@ -31,7 +31,7 @@ step-requires : tie.Need-step-requires
 step-requires c κs = search needs
 
 returns-2 : tie.Need-returns-2
-returns-2 c = 
+returns-2 c =
     let test = c .before in
     let a = test .before .before .before .before .before .args in
     ap (λ (p : Parser). stateOf p (a .session .allowance) (a .array .now) (a .control .now) (a .cache .now)) (c .step .ensures)

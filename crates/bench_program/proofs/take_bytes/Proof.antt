@@ -10,7 +10,7 @@ use Rattle.bench_program.proofs.take_bytes.Statement.{statement}
 use Rattle.bench_program.proofs.take_bytes.Tie as tie
 
 abbrev Inv-loop : tie.InvT-loop
-Inv-loop keys control₀ array₀ cache₀ input state₀ i₀ control array cache state i = 
+Inv-loop keys control₀ array₀ cache₀ input state₀ i₀ control array cache state i =
     (i ≤ length input) × ((bytesTaken keys (stateOf (state .parser) (state .allowance) array control cache) (drop i input)
     ≡ bytesTaken keys (stateOf (state₀ .parser) (state₀ .allowance) array₀ control₀ cache₀) input)
     × ((length control ≡ length control₀) × ((length array ≡ length array₀) × (length cache ≡ length cache₀))))
@@ -34,7 +34,7 @@ loop-less : tie.Need-loop-less Inv-loop μ-loop
 loop-less c = omega arith
 
 loop-again : tie.Need-loop-again Inv-loop μ-loop
-loop-again c = 
+loop-again c =
     let call = c .before .before .before .before .before .before in
     let at = call .before .before .before .before .before .before in
     let a = at .before .before .before .before .before .before .args in
@@ -62,7 +62,7 @@ same-length-3 : tie.Need-same-length-3 Inv-loop μ-loop
 same-length-3 c = c .before .loop .inv .1 .1 .1 .1
 
 returns : tie.Need-returns Inv-loop μ-loop
-returns c = 
+returns c =
     let at = c .before in
     let a = at .before .before .before .before .before .before .args in
     let s = at .loop .state in
