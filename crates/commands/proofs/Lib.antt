@@ -1,3 +1,4 @@
 pub mod Numbers
 pub mod Parsed
 pub mod Spelled
+pub mod Reread
