@@ -1,8 +1,7 @@
 -- `commands::step` meets its contract. Assumes nothing.
 use mathlib.Core.Path.{_≡_, refl, sym, ap, _∙_}
 use native.Mathlib.Omega.{arith}
-use borrow.Author.Tests.{eq-eqb, ne-eqb}
-use Rattle.commands.specs.Machine.{next}
+use Rattle.commands.proofs.Steps.{space, no-space}
 use borrow.Author.Needs.{needs}
 use Rattle.commands.proofs.step.Statement.{statement}
 use Rattle.commands.proofs.step.Tie as tie
@@ -14,12 +13,10 @@ after-byte-requires : tie.Need-after-byte-requires
 after-byte-requires c κs = search needs
 
 returns : tie.Need-returns
-unfolding next
-returns c = rw (eq-eqb _ _ (c .before .if1 .taken)) (c .after-space .ensures)
+returns c = c .after-space .ensures ∙ space _ _ (omega (arith, c .before .if1 .taken))
 
 returns-2 : tie.Need-returns-2
-unfolding next
-returns-2 c = rw (ne-eqb _ _ (c .before .if1 .left)) (c .after-byte .ensures)
+returns-2 c = c .after-byte .ensures ∙ no-space _ _ (c .before .if1 .left)
 
 pub step-spec : {M : Type 1} → statement M
 step-spec = tie.close (tie.spec after-space-requires after-byte-requires returns returns-2)
