@@ -137,7 +137,7 @@ fn run(
     let outcome = call(keys, control, array, cache, command, allowance);
     let answer = outcome.answer;
     settle(cache, answer);
-    commands::print(line, command, answer, outcome.first)
+    printing::print(line, command, answer, outcome.first)
 }
 
 // What is kept between two bytes of the input.

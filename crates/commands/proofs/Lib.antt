@@ -1,5 +1,3 @@
 pub mod Numbers
 pub mod Parsed
 pub mod Steps
-pub mod Spelled
-pub mod Reread

@@ -1,7 +1,7 @@
 -- Decimal numbers in text: bytes 48 to 57 are the digits, the most significant stands first. Assumes nothing.
-use Prim.Native.Nat.{ℕ, zero, suc, _+_, _-_, _*_, _/_, _%_, _^_}
+use Prim.Native.Nat.{ℕ, _+_, _-_, _*_, _^_}
 use mathlib.Core.Bool.{Bool, true, _&&_, cond}
-use mathlib.Core.List.{List, [], _∷_, _++_}
+use mathlib.Core.List.{List, [], _∷_}
 use lib.Dec.{ltb, leb}
 use Rattle.commands.specs.declared.Number.{Number}
 use Rattle.commands.specs.declared.Number.the-variants.{Empty, Value, Bad}
@@ -25,12 +25,3 @@ below64 n = cond (ltb n (2 ^ 64)) (Value n) Bad
 unfoldable pub decimal : List ℕ → Number
 decimal [] = Empty
 decimal (b ∷ bs) = cond (allDigits (b ∷ bs)) (below64 (valueFrom 0 (b ∷ bs))) Bad
-
--- x printed: no leading zero, and at most n digits
-unfoldable pub digitsOf : ℕ → ℕ → List ℕ
-digitsOf zero x = []
-digitsOf (suc n) x = cond (ltb x 10) ((48 + x) ∷ []) (digitsOf n (x / 10) ++ ((48 + x % 10) ∷ []))
-
--- a number below 2^64 has at most 20
-unfoldable pub printed : ℕ → List ℕ
-printed x = digitsOf 20 x

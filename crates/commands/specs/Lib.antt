@@ -1,4 +1,3 @@
 pub mod Decimal
 pub mod Language
-pub mod Printed
 pub mod Machine

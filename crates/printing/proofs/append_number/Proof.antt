@@ -1,10 +1,10 @@
--- `commands::append_number` meets its contract. Assumes nothing.
+-- `printing::append_number` meets its contract. Assumes nothing.
 use mathlib.Core.Path.{_≡_, refl, sym, ap, _∙_}
 use native.Mathlib.Omega.{arith}
-use Rattle.commands.proofs.Spelled.{appended-number}
+use Rattle.printing.proofs.Spelled.{appended-number}
 use borrow.Author.Needs.{needs}
-use Rattle.commands.proofs.append_number.Statement.{statement}
-use Rattle.commands.proofs.append_number.Tie as tie
+use Rattle.printing.proofs.append_number.Statement.{statement}
+use Rattle.printing.proofs.append_number.Tie as tie
 
 append-requires : tie.Need-append-requires
 append-requires c κs = search needs

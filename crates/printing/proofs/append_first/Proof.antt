@@ -1,24 +1,18 @@
--- `commands::append_first` meets its contract. Assumes nothing.
+-- `printing::append_first` meets its contract. Assumes nothing.
 use mathlib.Core.Path.{_≡_, refl, sym, ap, _∙_}
 use native.Mathlib.Omega.{arith}
-use Prim.Native.Nat.{ℕ}
-use mathlib.Core.List.{List, _∷_}
-use Rattle.commands.specs.Decimal.{printed}
-use Rattle.commands.specs.Printed.{readText}
-use Rattle.commands.proofs.Spelled.{retold, appended-none}
 use Rattle.answer.specs.declared.Answer.{Answer}
+use Rattle.printing.specs.Printed.{readText}
+use Rattle.printing.proofs.Spelled.{retold, appended-none}
 use borrow.Author.Needs.{needs}
-use Rattle.commands.proofs.append_first.Statement.{statement}
-use Rattle.commands.proofs.append_first.Tie as tie
+use Rattle.printing.proofs.append_first.Statement.{statement}
+use Rattle.printing.proofs.append_first.Tie as tie
 
 enum-told : tie.Need-enum-told
 enum-told c = search needs
 
 slice-aggregate-append-number : tie.Need-slice-aggregate-append-number
 slice-aggregate-append-number c = search needs
-
-wide-requires : tie.Need-wide-requires
-wide-requires c κs = search needs
 
 append-number-requires : tie.Need-append-number-requires
 append-number-requires c κs = search needs
@@ -28,9 +22,6 @@ enum-told-2 c = search needs
 
 slice-aggregate-append-number-2 : tie.Need-slice-aggregate-append-number-2
 slice-aggregate-append-number-2 c = search needs
-
-wide-requires-2 : tie.Need-wide-requires-2
-wide-requires-2 c κs = search needs
 
 append-number-requires-2 : tie.Need-append-number-requires-2
 append-number-requires-2 c κs = search needs
@@ -48,12 +39,9 @@ returns : tie.Need-returns
 unfolding readText
 returns c =
     let call = c .before .before in
-    let wide = call .before in
-    let told = wide .before .before .before in
-    let x = told .before .before .before .args .first in (
-      retold (ap (λ (n : ℕ). 32 ∷ printed n) (wide .wide .ensures) ∙ ap (λ (a : Answer). readText a x) (sym (told .enum-told .given .1))) (call .append-number .ensures .0),
-      omega (arith, call .append-number .ensures .1),
-    )
+    let told = call .before .before .before in
+    let x = told .before .before .before .args .first in
+    (retold (ap (λ (a : Answer). readText a x) (sym (told .enum-told .given .1))) (call .append-number .ensures .0), omega (arith, call .append-number .ensures .1))
 
 same-length-2 : tie.Need-same-length-2
 same-length-2 c = search needs
@@ -62,12 +50,9 @@ returns-2 : tie.Need-returns-2
 unfolding readText
 returns-2 c =
     let call = c .before .before in
-    let wide = call .before in
-    let told = wide .before .before .before in
-    let x = told .before .before .before .args .first in (
-      retold (ap (λ (n : ℕ). 32 ∷ printed n) (wide .wide2 .ensures) ∙ ap (λ (a : Answer). readText a x) (sym (told .enum-told2 .given .1))) (call .append-number2 .ensures .0),
-      omega (arith, call .append-number2 .ensures .1),
-    )
+    let told = call .before .before .before in
+    let x = told .before .before .before .args .first in
+    (retold (ap (λ (a : Answer). readText a x) (sym (told .enum-told2 .given .1))) (call .append-number2 .ensures .0), omega (arith, call .append-number2 .ensures .1))
 
 returns-3 : tie.Need-returns-3
 unfolding readText
@@ -89,11 +74,9 @@ append-first-spec =
     (tie.spec
     enum-told
     slice-aggregate-append-number
-    wide-requires
     append-number-requires
     enum-told-2
     slice-aggregate-append-number-2
-    wide-requires-2
     append-number-requires-2
     enum-told-3
     enum-told-4

@@ -1,13 +1,13 @@
--- `commands::print` meets its contract. Assumes nothing.
+-- `printing::print` meets its contract. Assumes nothing.
 use mathlib.Core.Path.{_≡_, refl, sym, ap, _∙_}
 use native.Mathlib.Omega.{arith}
 use Rattle.answer.specs.declared.Answer.{Answer}
 use Rattle.commands.specs.declared.Command.{Command}
-use Rattle.commands.specs.Printed.{lineOf}
-use Rattle.commands.proofs.Spelled.{appended-all}
+use Rattle.printing.specs.Printed.{lineOf}
+use Rattle.printing.proofs.Spelled.{appended-all}
 use borrow.Author.Needs.{needs}
-use Rattle.commands.proofs.print.Statement.{statement}
-use Rattle.commands.proofs.print.Tie as tie
+use Rattle.printing.proofs.print.Statement.{statement}
+use Rattle.printing.proofs.print.Tie as tie
 
 enum-known-command : tie.Need-enum-known-command
 enum-known-command c = search needs

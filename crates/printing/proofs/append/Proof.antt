@@ -1,14 +1,14 @@
--- `commands::append` meets its contract. Assumes nothing.
+-- `printing::append` meets its contract. Assumes nothing.
 use mathlib.Core.Path.{_≡_, refl, sym, ap, _∙_}
 use native.Mathlib.Omega.{arith}
 use mathlib.Core.List.{List}
 use Prim.Native.Nat.{ℕ}
 use lib.Seq.{take-length}
 use Rattle.words.specs.Bytes.{put}
-use Rattle.commands.proofs.Spelled.{appended-put}
+use Rattle.printing.proofs.Spelled.{appended-put}
 use borrow.Author.Needs.{needs}
-use Rattle.commands.proofs.append.Statement.{statement}
-use Rattle.commands.proofs.append.Tie as tie
+use Rattle.printing.proofs.append.Statement.{statement}
+use Rattle.printing.proofs.append.Tie as tie
 
 copy-requires : tie.Need-copy-requires
 copy-requires c κs = search needs

@@ -9,10 +9,11 @@ use native.Mathlib.Omega.{arith}
 use lib.ListN.{length, getD, length-append, List·getD-append}
 use borrow.Author.Tests.{lt-ltb, le-ltb, le-leb}
 use Rattle.words.proofs.Order.{lt-or-ge}
 use Rattle.commands.specs.declared.Number.{Number}
 use Rattle.commands.specs.declared.Number.the-variants.{Value, Bad}
-use Rattle.commands.specs.Decimal.{isDigit, allDigits, valueFrom, below64, decimal, digitsOf, printed}
+use Rattle.commands.specs.Decimal.{isDigit, allDigits, valueFrom, below64, decimal}
+use Rattle.printing.specs.Printed.{digitsOf, printed}
 use Rattle.commands.proofs.Numbers.{fits}
 
 -- ---- a digit behind digits
 

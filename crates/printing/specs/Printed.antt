@@ -1,13 +1,23 @@
 -- What the bench program prints for a command: bytes, with the newline. Assumes nothing.
-use Prim.Native.Nat.{ℕ, _+_}
+use Prim.Native.Nat.{ℕ, zero, suc, _+_, _/_, _%_}
 use mathlib.Core.Path.{_≡_}
+use mathlib.Core.Bool.{cond}
 use mathlib.Core.List.{List, [], _∷_, _++_}
+use lib.Dec.{ltb}
 use lib.ListN.{length, take}
 use Rattle.answer.specs.declared.Answer.{Answer}
 use Rattle.answer.specs.declared.Answer.the-variants.{Done, Blank, Cut, Refused}
 use Rattle.commands.specs.declared.Command.{Command}
 use Rattle.commands.specs.declared.Command.the-variants.{Write, Read, Recover, Allow, Unknown}
-use Rattle.commands.specs.Decimal.{printed}
+
+-- x printed: no leading zero, and at most n digits
+unfoldable pub digitsOf : ℕ → ℕ → List ℕ
+digitsOf zero x = []
+digitsOf (suc n) x = cond (ltb x 10) ((48 + x) ∷ []) (digitsOf n (x / 10) ++ ((48 + x % 10) ∷ []))
+
+-- a number below 2^64 has at most 20
+unfoldable pub printed : ℕ → List ℕ
+printed x = digitsOf 20 x
 
 -- ` done STORES`, ` blank STORES`, ` cut STORES`, ` refused NUMBER`
 unfoldable pub answerText : Answer → List ℕ

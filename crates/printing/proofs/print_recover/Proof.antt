@@ -1,10 +1,10 @@
--- `commands::print_recover` meets its contract. Assumes nothing.
+-- `printing::print_recover` meets its contract. Assumes nothing.
 use mathlib.Core.Path.{_≡_, refl, sym, ap, _∙_}
 use native.Mathlib.Omega.{arith}
-use Rattle.commands.proofs.Spelled.{four}
+use Rattle.printing.proofs.Spelled.{four}
 use borrow.Author.Needs.{needs}
-use Rattle.commands.proofs.print_recover.Statement.{statement}
-use Rattle.commands.proofs.print_recover.Tie as tie
+use Rattle.printing.proofs.print_recover.Statement.{statement}
+use Rattle.printing.proofs.print_recover.Tie as tie
 
 slice-aggregate-append : tie.Need-slice-aggregate-append
 slice-aggregate-append c = search needs

@@ -1,11 +1,11 @@
--- `commands::append_sum` meets its contract. Assumes nothing.
+-- `printing::append_sum` meets its contract. Assumes nothing.
 use mathlib.Core.Path.{_≡_, refl, sym, ap, _∙_}
 use native.Mathlib.Omega.{arith}
-use Rattle.commands.specs.Printed.{recoverText}
-use Rattle.commands.proofs.Spelled.{retold, appended-none}
+use Rattle.printing.specs.Printed.{recoverText}
+use Rattle.printing.proofs.Spelled.{retold, appended-none}
 use borrow.Author.Needs.{needs}
-use Rattle.commands.proofs.append_sum.Statement.{statement}
-use Rattle.commands.proofs.append_sum.Tie as tie
+use Rattle.printing.proofs.append_sum.Statement.{statement}
+use Rattle.printing.proofs.append_sum.Tie as tie
 
 enum-known-answer : tie.Need-enum-known-answer
 enum-known-answer c = search needs

@@ -9,8 +9,8 @@ use lib.Seq.{append-snoc, drop-cons, drop-set-lt, getD-set-same, length-take-le,
 use borrow.Author.Tests.{lt-ltb, le-ltb}
 use Rattle.words.specs.Bytes.{part, put}
 use Rattle.words.proofs.Parts.{length-put}
-use Rattle.commands.specs.Decimal.{digitsOf, printed}
-use Rattle.commands.specs.Printed.{Appended}
+use Rattle.printing.specs.Printed.{digitsOf, printed}
+use Rattle.printing.specs.Printed.{Appended}
 
 -- ---- digits
 

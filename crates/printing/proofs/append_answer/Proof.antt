@@ -1,11 +1,11 @@
--- `commands::append_answer` meets its contract. Assumes nothing.
+-- `printing::append_answer` meets its contract. Assumes nothing.
 use mathlib.Core.Path.{_≡_, refl, sym, ap, _∙_}
 use native.Mathlib.Omega.{arith}
-use Rattle.commands.specs.Printed.{answerText}
-use Rattle.commands.proofs.Spelled.{retold}
+use Rattle.printing.specs.Printed.{answerText}
+use Rattle.printing.proofs.Spelled.{retold}
 use borrow.Author.Needs.{needs}
-use Rattle.commands.proofs.append_answer.Statement.{statement}
-use Rattle.commands.proofs.append_answer.Tie as tie
+use Rattle.printing.proofs.append_answer.Statement.{statement}
+use Rattle.printing.proofs.append_answer.Tie as tie
 
 enum-known-answer : tie.Need-enum-known-answer
 enum-known-answer c = search needs
