@@ -20,7 +20,8 @@ use Rattle.commands.specs.declared.Parser.{Parser}
 use Rattle.commands.specs.declared.Parser.the-variants.{Start}
 use Rattle.commands.specs.Machine.{next, found}
 use Rattle.printing.specs.Printed.{lineOf}
-use Rattle.bench_program.specs.Session.{ranTo, ran, settled, unlimited, allowanceAfter, Told, toldTo, settledTo, told, State, stateOf, lineEnded, byteTaken, bytesTaken, hasLine, inputEnded, started, Took, Served}
+use Rattle.bench_program.specs.Session.{ranTo, ran, settled, unlimited, allowanceAfter, Told, toldTo, settledTo, told}
+use Rattle.bench_program.specs.Session.{State, stateOf, lineEnded, byteTaken, bytesTaken, hasLine, inputEnded, started, Took, Served}
 
 -- what is not cut keeps the cache
 pub settled-else : (r : Answer) (c : List ℕ) → OneOf (0 ∷ 1 ∷ 3 ∷ []) (tagOf the-type r) → c ≡ settled r c
@@ -58,7 +59,8 @@ module _ (keys : List ℕ) (s : State) (b : ℕ) where
 
 -- one byte of the input, and the rest
 module _ (keys : List ℕ) (s : State) (input : List ℕ) (i : ℕ) where
-  pub taken-one : i < length input → bytesTaken keys (byteTaken keys s (getD input i 0)) (drop (i + 1) input) ≡ bytesTaken keys s (drop i input)
+  pub taken-one : i < length input → bytesTaken keys (byteTaken keys s (getD input i 0)) (drop (i + 1) input)
+      ≡ bytesTaken keys s (drop i input)
   unfolding bytesTaken
   taken-one h =
       ap (bytesTaken keys s)
@@ -104,7 +106,8 @@ pub going-first : (keys a k c : List ℕ) → Going keys a k c Start unlimited a
 unfolding bytesTaken
 going-first keys a k c = record { took = record { read = []; taken = refl }; array = refl; control = refl; cache = refl }
 
-pub going-on : {keys a₀ k₀ c₀ : List ℕ} {p : Parser} {n : ℕ} {a k c : List ℕ} {q : Parser} {i : ℕ} {a' k' c' : List ℕ} → Going keys a₀ k₀ c₀ p n a k c
-    → Took keys (stateOf p n a k c) (stateOf q i a' k' c') → length a' ≡ length a → length k' ≡ length k → length c' ≡ length c
+pub going-on : {keys a₀ k₀ c₀ : List ℕ} {p : Parser} {n : ℕ} {a k c : List ℕ} {q : Parser} {i : ℕ} {a' k' c' : List ℕ}
+    → Going keys a₀ k₀ c₀ p n a k c → Took keys (stateOf p n a k c) (stateOf q i a' k' c')
+    → length a' ≡ length a → length k' ≡ length k → length c' ≡ length c
     → Going keys a₀ k₀ c₀ q i a' k' c'
 going-on g x e f h = record { took = took-more (g .took) x; array = e ∙ g .array; control = f ∙ g .control; cache = h ∙ g .cache }

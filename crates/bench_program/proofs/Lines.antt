@@ -70,7 +70,8 @@ module _ (keys : List ℕ) (n : ℕ) (m : Module) where
       ∙ sym (newline keys (at (fed Start line)) 10 refl) ∙ ends line
 
   -- a last line without one, if it has a byte
-  pub last-taken : (b : ℕ) (bs : List ℕ) → Line (b ∷ bs) → inputEnded keys (bytesTaken keys (at Start) (b ∷ bs)) ≡ after keys n m (commandOf (b ∷ bs))
+  pub last-taken : (b : ℕ) (bs : List ℕ) → Line (b ∷ bs)
+      → inputEnded keys (bytesTaken keys (at Start) (b ∷ bs)) ≡ after keys n m (commandOf (b ∷ bs))
   unfolding inputEnded fed
   last-taken b bs h =
       ap (inputEnded keys) (kept h Start)

@@ -2,10 +2,10 @@
 ghost use mathlib.Core.Path.{_≡_};
 ghost use Prim.Native.Nat.{_≤_};
 ghost use lib.ListN.{length, take};
-ghost use Rattle.answer.specs.declared.Answer.the-variants.{Done};
 ghost use Rattle.commands.specs.declared.Command.the-variants.{Write, Read, Recover};
 ghost use Rattle.calls.specs.Call.{buffers};
-ghost use Rattle.bench_program.specs.Session.{ranTo, ran as ranOf, settled, allowanceAfter, toldTo, told, stateOf, lineEnded, byteTaken, bytesTaken, hasLine, Took, Served};
+ghost use Rattle.bench_program.specs.Session.{ranTo, ran as ranOf, settled, allowanceAfter, toldTo, told};
+ghost use Rattle.bench_program.specs.Session.{stateOf, lineEnded, byteTaken, bytesTaken, hasLine, Took, Served};
 use answer::Answer;
 use commands::Command;
 use commands::Parser;
@@ -28,7 +28,8 @@ fn call_write(
     allowance: u64,
 ) -> Outcome
     ensures { λ r. ⌜ ranTo (r .answer) (r .first) (now (array .exit)) (now (control .exit)) (now (cache .exit))
-        ≡ ranOf (now (keys .entry)) (Write line byte) allowance (buffers (now (array .entry)) (now (control .entry)) (now (cache .entry))) ⌝ }
+        ≡ ranOf (now (keys .entry)) (Write line byte) allowance
+        (buffers (now (array .entry)) (now (control .entry)) (now (cache .entry))) ⌝ }
 {
     let text = [byte; 64];
     let answer = write::write(keys, control, array, cache, line, &text, allowance);
@@ -294,8 +295,9 @@ fn serve(keys: &[u8], control: &mut [u8], array: &mut [u8], cache: &mut [u8])
 }
 
 fn main() {
-    let keys =
-        b"\x00\x01\x02\x03\x04\x05\x06\x07\x08\x09\x0a\x0b\x0c\x0d\x0e\x0f\x10\x11\x12\x13\x14\x15\x16\x17\x18\x19\x1a\x1b\x1c\x1d\x1e\x1f\x20\x21\x22\x23\x24\x25\x26\x27\x28\x29\x2a\x2b\x2c\x2d\x2e\x2f";
+    let keys = b"\x00\x01\x02\x03\x04\x05\x06\x07\x08\x09\x0a\x0b\x0c\x0d\x0e\x0f\
+        \x10\x11\x12\x13\x14\x15\x16\x17\x18\x19\x1a\x1b\x1c\x1d\x1e\x1f\
+        \x20\x21\x22\x23\x24\x25\x26\x27\x28\x29\x2a\x2b\x2c\x2d\x2e\x2f";
     let mut control = [0u8; 664];
     let mut array = [0u8; 37944];
     let mut cache = [0u8; 438];

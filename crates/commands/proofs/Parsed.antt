@@ -118,7 +118,8 @@ three-parts c Bad r = ap found (in-other r) ∙ sym (either (eqb c 119))
 three-parts c (Value n) r = ap found (in-second c n Empty r ∙ ap (Second c n) (number-of r)) ∙ pick (eqb c 119) (decimal r)
   where
     pick : (t : Bool) (m : Number)
-        → given m (λ b. cond t (cond (leb b 255) (Write n b) Unknown) Unknown) ≡ cond t (given m (λ b. cond (leb b 255) (Write n b) Unknown)) Unknown
+        → given m (λ b. cond t (cond (leb b 255) (Write n b) Unknown) Unknown)
+        ≡ cond t (given m (λ b. cond (leb b 255) (Write n b) Unknown)) Unknown
     pick true m = refl
     pick false m = no-command m
 

@@ -1,7 +1,8 @@
 // The bench program's commands: a line is parsed byte by byte.
 ghost use mathlib.Core.Path.{_≡_};
 ghost use Rattle.commands.specs.Language.{given, commandOf};
-ghost use Rattle.commands.specs.Machine.{digitAfter, withDigit, afterByte, secondPart, afterSpace, next, noNumber, oneNumber, twoNumbers, found};
+ghost use Rattle.commands.specs.Machine.{digitAfter, withDigit, afterByte, secondPart, afterSpace, next};
+ghost use Rattle.commands.specs.Machine.{noNumber, oneNumber, twoNumbers, found};
 
 pub enum Command {
     Write { line: u64, byte: u8 },

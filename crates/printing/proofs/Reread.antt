@@ -75,7 +75,8 @@ unfolding digitsOf
 spelled zero x h = let q : x < 10 = omega arith in rw (lt-ltb x 10 q) (one-digit x q)
 spelled (suc n) x h =
     let rest = spelled n (x / 10) (omega arith) in
-    ⊎-elim (λ q. rw (lt-ltb x 10 q) (one-digit x q)) (λ q. rw (le-ltb x 10 q) (digit-on x (digitsOf (suc n) (x / 10)) q rest)) (lt-or-ge x 10)
+    ⊎-elim (λ q. rw (lt-ltb x 10 q) (one-digit x q))
+    (λ q. rw (le-ltb x 10 q) (digit-on x (digitsOf (suc n) (x / 10)) q rest)) (lt-or-ge x 10)
 
 spelled-printed : (x : ℕ) → x < 2 ^ 64 → Spelled x (printed x)
 unfolding printed

@@ -5,7 +5,7 @@ use Prim.Native.Nat.{ℕ, zero, suc, _+_, _-_, _*_, _/_, _%_, _^_, _≤_, _<_}
 use native.Mathlib.Nat.{not-suc-le-zero, add-assoc}
 use native.Mathlib.Omega.{arith}
 use lib.ListN.{length, take, drop, set, length-append, length-drop, drop-of-length-le}
-use lib.Seq.{append-snoc, drop-cons, drop-set-lt, getD-set-same, length-take-le, take-append-add, take-append-le, take-at, take-all, lt-length-set}
+use lib.Seq.{drop-cons, drop-set-lt, getD-set-same, length-take-le, take-append-add, take-at, take-all, lt-length-set}
 use borrow.Author.Tests.{lt-ltb, le-ltb}
 use Rattle.words.specs.Bytes.{part, put}
 use Rattle.words.proofs.Parts.{length-put}
@@ -55,7 +55,8 @@ module _ {s t u : List ℕ} {at p q : ℕ} {xs ys : List ℕ} where
       record {
         size = b .size ∙ a .size;
         bytes = b .bytes ∙ ap (λ (l : List ℕ). l ++ ys) (a .bytes) ∙ append-assoc (take at s) xs ys;
-        end = b .end ∙ ap (λ (k : ℕ). k + length ys) (a .end) ∙ add-assoc at (length xs) (length ys) ∙ ap (λ (k : ℕ). at + k) (sym (length-append xs ys));
+        end = b .end ∙ ap (λ (k : ℕ). k + length ys) (a .end) ∙ add-assoc at (length xs) (length ys)
+            ∙ ap (λ (k : ℕ). at + k) (sym (length-append xs ys));
       }
 
 -- written by a put
@@ -76,14 +77,15 @@ pub appended-all : {s t : List ℕ} {r : ℕ} {xs : List ℕ} → Appended s t 0
 appended-all a = a .bytes
 
 -- text, and a number that was spelled at the end of 20 bytes
-pub appended-number : {s t u xs : List ℕ} (ds : List ℕ) {at p : ℕ} (n i : ℕ) → Appended s t at p xs → length ds ≡ 20 → i < 20 → drop i ds ≡ printed n
-    → p + (20 - i) ≤ length t → u ≡ put t p (part ds i (20 - i)) → Appended s u at (p + (20 - i)) (xs ++ printed n)
+pub appended-number : {s t u xs : List ℕ} (ds : List ℕ) {at p : ℕ} (n i : ℕ) → Appended s t at p xs → length ds ≡ 20 → i < 20
+    → drop i ds ≡ printed n → p + (20 - i) ≤ length t → u ≡ put t p (part ds i (20 - i)) → Appended s u at (p + (20 - i)) (xs ++ printed n)
 appended-number {t = t} {u = u} ds {p = p} n i a size less spelled room e =
     let rest : length (drop i ds) ≡ 20 - i = length-drop i ds ∙ ap (λ (k : ℕ). k - i) size in
     let long : length (printed n) ≡ 20 - i = ap length (sym spelled) ∙ rest in
     let all : part ds i (20 - i) ≡ printed n = take-all (20 - i) (drop i ds) (omega arith) ∙ spelled in
     appended-on a
-    (appended-put t p (printed n) u (p + (20 - i)) (omega arith) (e ∙ ap (λ (l : List ℕ). put t p l) all) (ap (λ (k : ℕ). p + k) (sym long)))
+    (appended-put t p (printed n) u (p + (20 - i)) (omega arith) (e ∙ ap (λ (l : List ℕ). put t p l) all)
+    (ap (λ (k : ℕ). p + k) (sym long)))
 
 pub appended-none : (s : List ℕ) (at : ℕ) → Appended s s at at []
 appended-none s at = record { size = refl; bytes = sym (append-nil (take at s)); end = omega arith }
@@ -92,7 +94,8 @@ pub retold : {s t : List ℕ} {at r : ℕ} {xs ys : List ℕ} → xs ≡ ys → 
 retold {s} {t} {at} {r} e a = subst (λ (l : List ℕ). Appended s t at r l) e a
 
 -- three and four texts, one behind the other from the start of a buffer
-module _ {s t u v : List ℕ} {p q r : ℕ} {xs ys zs : List ℕ} (a : Appended s t 0 p xs) (b : Appended t u p q ys) (c : Appended u v q r zs) where
+module _ {s t u v : List ℕ} {p q r : ℕ} {xs ys zs : List ℕ}
+    (a : Appended s t 0 p xs) (b : Appended t u p q ys) (c : Appended u v q r zs) where
   pub three : take r v ≡ xs ++ ys ++ zs
   three = appended-all (appended-on (appended-on a b) c)
 

@@ -3,7 +3,8 @@ ghost use mathlib.Core.Path.{_≡_};
 ghost use mathlib.Core.List.{_++_};
 ghost use Prim.Native.Nat.{_+_, _≤_, _<_};
 ghost use lib.ListN.{length, take, drop};
-ghost use Rattle.printing.specs.Printed.{printed, answerText, readText, recoverText, writeLine, readLine, recoverLine, lineOf, Appended};
+ghost use Rattle.printing.specs.Printed.{printed, answerText, readText, recoverText, Appended};
+ghost use Rattle.printing.specs.Printed.{writeLine, readLine, recoverLine, lineOf};
 use answer::Answer;
 use commands::Command;
 

@@ -3,10 +3,14 @@ use mathlib.Core.Path.{_≡_, refl, sym, ap, _∙_}
 use native.Mathlib.Omega.{arith}
 use Rattle.commands.specs.declared.Command.{Command}
 use Rattle.calls.specs.Call.{buffers}
-use Rattle.bench_program.specs.Session.{ran}
+use Rattle.bench_program.specs.Session.{Ran, ran}
 use borrow.Author.Needs.{needs}
 use Rattle.bench_program.proofs.call.Statement.{statement}
 use Rattle.bench_program.proofs.call.Tie as tie
+
+-- a command run on what is lent
+abbrev ranAt : tie.Start → Command → Ran
+ranAt c z = let a = c .args in ran (a .keys .now) z (a .allowance) (buffers (a .array .now) (a .control .now) (a .cache .now))
 
 enum-known-command : tie.Need-enum-known-command
 enum-known-command c = search needs
@@ -46,8 +50,8 @@ unfolding ran
 returns c =
     let call = c .before .before .before .before .before .before in
     let at = call .before .before .before .before .before in
-    let a = at .before .before .before .before .before .before .args in
-    call .call-write .ensures ∙ ap (λ (z : Command). ran (a .keys .now) z (a .allowance) (buffers (a .array .now) (a .control .now) (a .cache .now))) (sym (at .command .given .1))
+    let start = at .before .before .before .before .before .before in
+    call .call-write .ensures ∙ ap (ranAt start) (sym (at .command .given .1))
 
 same-length-4 : tie.Need-same-length-4
 same-length-4 c = search needs
@@ -63,8 +67,8 @@ unfolding ran
 returns-2 c =
     let call = c .before .before .before .before .before .before in
     let at = call .before .before .before .before .before in
-    let a = at .before .before .before .before .before .before .args in
-    call .call-read .ensures ∙ ap (λ (z : Command). ran (a .keys .now) z (a .allowance) (buffers (a .array .now) (a .control .now) (a .cache .now))) (sym (at .command2 .given .1))
+    let start = at .before .before .before .before .before .before in
+    call .call-read .ensures ∙ ap (ranAt start) (sym (at .command2 .given .1))
 
 same-length-7 : tie.Need-same-length-7
 same-length-7 c = search needs
@@ -80,20 +84,20 @@ unfolding ran
 returns-3 c =
     let call = c .before .before .before .before .before .before in
     let at = call .before .before .before .before in
-    let a = at .before .before .before .before .before .before .args in
-    call .call-recover .ensures ∙ ap (λ (z : Command). ran (a .keys .now) z (a .allowance) (buffers (a .array .now) (a .control .now) (a .cache .now))) (sym (at .enum-told .given .1))
+    let start = at .before .before .before .before .before .before in
+    call .call-recover .ensures ∙ ap (ranAt start) (sym (at .enum-told .given .1))
 
 returns-4 : tie.Need-returns-4
 unfolding ran
 returns-4 c =
-    let a = c .before .before .before .before .before .before .args in
-    ap (λ (z : Command). ran (a .keys .now) z (a .allowance) (buffers (a .array .now) (a .control .now) (a .cache .now))) (sym (c .enum-told2 .given .1))
+    let start = c .before .before .before .before .before .before in
+    ap (ranAt start) (sym (c .enum-told2 .given .1))
 
 returns-5 : tie.Need-returns-5
 unfolding ran
 returns-5 c =
-    let a = c .before .before .before .before .before .before .args in
-    ap (λ (z : Command). ran (a .keys .now) z (a .allowance) (buffers (a .array .now) (a .control .now) (a .cache .now))) (sym (c .enum-told3 .given .1))
+    let start = c .before .before .before .before .before .before in
+    ap (ranAt start) (sym (c .enum-told3 .given .1))
 
 pub call-spec : {M : Type 1} → statement M
 call-spec =

@@ -2,6 +2,8 @@
 use mathlib.Core.Path.{_≡_, refl, sym, ap, _∙_}
 use native.Mathlib.Omega.{arith}
 use Rattle.bench_program.proofs.Laws.{line-run}
+use Prim.Native.Nat.{_≤_}
+use lib.ListN.{length}
 use lib.Seq.{length-take-le}
 use Rattle.calls.specs.Call.{buffers}
 use borrow.Author.Needs.{needs}
@@ -23,7 +25,9 @@ array-share-prefix-line c = search needs
 slice-aggregate-write-all : tie.Need-slice-aggregate-write-all
 slice-aggregate-write-all c =
     let made = c .before .before .before .before .before .before .before .before in
-    sym (length-take-le (made .run .result) (made .run .last .1 .1 .1 .1 .1 .1 .0) (omega (arith, made .run .ensures .1, made .run .kept .1 .1 .1 .1 .1 .1 .0)))
+    let line = made .run .last .1 .1 .1 .1 .1 .1 .0 in
+    let room : made .run .result ≤ length line = omega (arith, made .run .ensures .1, made .run .kept .1 .1 .1 .1 .1 .1 .0) in
+    sym (length-take-le (made .run .result) line room)
 
 write-all-requires : tie.Need-write-all-requires
 write-all-requires c κs = search needs
@@ -46,7 +50,8 @@ returns c =
     let done = made .before .before .before .before .before in
     let a = done .before .before .before .before .before .args in
     let m = buffers (a .array .now) (a .control .now) (a .cache .now) in
-    line-run (a .keys .now) (done .finish .result) (a .session .allowance) m (a .session .parser) (done .finish .ensures) (made .run .ensures .0) (c .allowance-after .ensures)
+    line-run (a .keys .now) (done .finish .result) (a .session .allowance) m (a .session .parser)
+    (done .finish .ensures) (made .run .ensures .0) (c .allowance-after .ensures)
 
 pub end-line-spec : {M : Type 1} → statement M
 end-line-spec =

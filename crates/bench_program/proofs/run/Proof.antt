@@ -34,8 +34,10 @@ returns c =
     let end = last .before .before .before .before in
     let made = end .before .before .before .before .before .before .before .before in
     let a = made .before .before .before .before .before .before .before .before .before .args in
-    let m = buffers (a .array .now) (a .control .now) (a .cache .now) in
-    (told-run (a .keys .now) (a .command) (a .allowance) m (made .call .ensures) (end .settle .ensures) (last .print .ensures .0), last .print .ensures .1)
+    let m = buffers (a .array .now) (a .control .now) (a .cache .now) in (
+      told-run (a .keys .now) (a .command) (a .allowance) m (made .call .ensures) (end .settle .ensures) (last .print .ensures .0),
+      last .print .ensures .1,
+    )
 
 pub run-spec : {M : Type 1} → statement M
 run-spec =

@@ -7,13 +7,16 @@ use Rattle.bench_program.proofs.serve.Statement.{statement}
 use Rattle.bench_program.proofs.serve.Tie as tie
 
 abbrev Inv-loop : tie.InvT-loop
-Inv-loop keys control₀ array₀ cache₀ session₀ turns₀ control array cache session turns = Going keys array₀ control₀ cache₀ (session .parser) (session .allowance) array control cache
+Inv-loop keys control₀ array₀ cache₀ session₀ turns₀ control array cache session turns =
+    Going keys array₀ control₀ cache₀ (session .parser) (session .allowance) array control cache
 
 abbrev μ-loop : tie.MeasureT-loop
 μ-loop keys control₀ array₀ cache₀ session₀ turns₀ control array cache session turns = turns
 
 loop-holds : tie.Need-loop-holds Inv-loop μ-loop
-loop-holds c = let a = c .before .before .before .before .args in going-first (a .keys .now) (a .array .now) (a .control .now) (a .cache .now)
+loop-holds c =
+    let a = c .before .before .before .before .args in
+    going-first (a .keys .now) (a .array .now) (a .control .now) (a .cache .now)
 
 turn-requires : tie.Need-turn-requires Inv-loop μ-loop
 turn-requires c κs = search needs
@@ -27,7 +30,8 @@ loop-less c = omega arith
 loop-again : tie.Need-loop-again Inv-loop μ-loop
 loop-again c =
     let call = c .before .before .before .before .before .before .before .before in
-    going-on (call .before .before .before .before .before .loop .inv) (call .turn .ensures) (call .turn .kept .1 .1 .0) (call .turn .kept .1 .0) (call .turn .kept .1 .1 .1 .0)
+    going-on (call .before .before .before .before .before .loop .inv) (call .turn .ensures)
+    (call .turn .kept .1 .1 .0) (call .turn .kept .1 .0) (call .turn .kept .1 .1 .1 .0)
 
 loop-less-2 : tie.Need-loop-less-2 Inv-loop μ-loop
 loop-less-2 c = omega arith
@@ -35,7 +39,8 @@ loop-less-2 c = omega arith
 loop-again-2 : tie.Need-loop-again-2 Inv-loop μ-loop
 loop-again-2 c =
     let call = c .before .before .before .before .before .before .before .before in
-    going-on (call .before .before .before .before .before .loop .inv) (call .turn .ensures) (call .turn .kept .1 .1 .0) (call .turn .kept .1 .0) (call .turn .kept .1 .1 .1 .0)
+    going-on (call .before .before .before .before .before .loop .inv) (call .turn .ensures)
+    (call .turn .kept .1 .1 .0) (call .turn .kept .1 .0) (call .turn .kept .1 .1 .1 .0)
 
 has-line-requires : tie.Need-has-line-requires Inv-loop μ-loop
 has-line-requires c κs = search needs
@@ -44,19 +49,26 @@ end-line-requires : tie.Need-end-line-requires Inv-loop μ-loop
 end-line-requires c κs = search needs
 
 same-length : tie.Need-same-length Inv-loop μ-loop
-same-length c = let call = c .before .before .before .before .before .before in call .end-line .kept .1 .0 ∙ call .before .before .before .before .before .before .before .loop .inv .control
+same-length c =
+    let call = c .before .before .before .before .before .before in
+    call .end-line .kept .1 .0 ∙ call .before .before .before .before .before .before .before .loop .inv .control
 
 same-length-2 : tie.Need-same-length-2 Inv-loop μ-loop
-same-length-2 c = let call = c .before .before .before .before .before .before in call .end-line .kept .1 .1 .0 ∙ call .before .before .before .before .before .before .before .loop .inv .array
+same-length-2 c =
+    let call = c .before .before .before .before .before .before in
+    call .end-line .kept .1 .1 .0 ∙ call .before .before .before .before .before .before .before .loop .inv .array
 
 same-length-3 : tie.Need-same-length-3 Inv-loop μ-loop
-same-length-3 c = let call = c .before .before .before .before .before .before in call .end-line .kept .1 .1 .1 .0 ∙ call .before .before .before .before .before .before .before .loop .inv .cache
+same-length-3 c =
+    let call = c .before .before .before .before .before .before in
+    call .end-line .kept .1 .1 .1 .0 ∙ call .before .before .before .before .before .before .before .loop .inv .cache
 
 returns : tie.Need-returns Inv-loop μ-loop
 returns c =
     let call = c .before .before .before .before .before .before in
     let test = call .before .before .before .before in
-    served-line (test .before .before .before .loop .inv .took) (sym (test .if2 .taken) ∙ test .before .has-line .ensures) (call .end-line .ensures)
+    served-line (test .before .before .before .loop .inv .took)
+    (sym (test .if2 .taken) ∙ test .before .has-line .ensures) (call .end-line .ensures)
 
 same-length-4 : tie.Need-same-length-4 Inv-loop μ-loop
 same-length-4 c = c .before .before .before .loop .inv .control

@@ -18,6 +18,12 @@ Inv-loop keys control₀ array₀ cache₀ input state₀ i₀ control array cac
 abbrev μ-loop : tie.MeasureT-loop
 μ-loop keys control₀ array₀ cache₀ input state₀ i₀ control array cache state i = length input - i
 
+-- the state at the loop's test
+abbrev stateAt : tie.At-loop Inv-loop μ-loop → State
+stateAt c =
+    let l = c .loop in
+    stateOf (l .state .parser) (l .state .allowance) (l .array) (l .control) (l .cache)
+
 loop-holds : tie.Need-loop-holds Inv-loop μ-loop
 loop-holds c = (zero-le, (refl, (refl, (refl, refl))))
 
@@ -38,12 +44,11 @@ loop-again c =
     let call = c .before .before .before .before .before .before in
     let at = call .before .before .before .before .before .before in
     let a = at .before .before .before .before .before .before .args in
-    let s = at .loop .state in
     let more : at .loop .i < length (a .input .now) = omega arith in (
       omega arith,
       (
         ap (λ (z : State). bytesTaken (a .keys .now) z (drop (at .loop .i + 1) (a .input .now))) (call .take-byte .ensures)
-            ∙ taken-one (a .keys .now) (stateOf (s .parser) (s .allowance) (at .loop .array) (at .loop .control) (at .loop .cache)) (a .input .now) (at .loop .i) more
+            ∙ taken-one (a .keys .now) (stateAt at) (a .input .now) (at .loop .i) more
             ∙ at .loop .inv .1 .0,
         (
           call .take-byte .kept .1 .0 ∙ at .loop .inv .1 .1 .0,
@@ -65,8 +70,7 @@ returns : tie.Need-returns Inv-loop μ-loop
 returns c =
     let at = c .before in
     let a = at .before .before .before .before .before .before .args in
-    let s = at .loop .state in
-    taken-all (a .keys .now) (stateOf (s .parser) (s .allowance) (at .loop .array) (at .loop .control) (at .loop .cache)) (a .input .now) (at .loop .i) (omega arith)
+    taken-all (a .keys .now) (stateAt at) (a .input .now) (at .loop .i) (omega arith)
     ∙ at .loop .inv .1 .0
 
 pub take-bytes-spec : {M : Type 1} → statement M

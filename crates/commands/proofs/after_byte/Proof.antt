@@ -39,13 +39,14 @@ returns-2 c = ap (λ (z : Parser). afterByte z (c .before .before .args .b)) (sy
 
 returns-3 : tie.Need-returns-3
 unfolding afterByte
-returns-3 c = 
+returns-3 c =
     let told = c .before .before in
-    ap (First (told .parser .given .0 .0)) (c .with-digit .ensures) ∙ ap (λ (z : Parser). afterByte z (told .before .before .args .b)) (sym (told .parser .given .1))
+    ap (First (told .parser .given .0 .0)) (c .with-digit .ensures)
+    ∙ ap (λ (z : Parser). afterByte z (told .before .before .args .b)) (sym (told .parser .given .1))
 
 returns-4 : tie.Need-returns-4
 unfolding afterByte
-returns-4 c = 
+returns-4 c =
     let told = c .before .before in
     ap (Second (told .parser2 .given .0 .0) (told .parser2 .given .0 .1 .0)) (c .with-digit2 .ensures)
     ∙ ap (λ (z : Parser). afterByte z (told .before .before .args .b)) (sym (told .parser2 .given .1))

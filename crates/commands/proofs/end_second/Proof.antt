@@ -27,7 +27,9 @@ returns c = search needs
 returns-2 : tie.Need-returns-2
 unfolding given
 returns-2 c =
-    c .two-numbers .ensures ∙ ap (λ (n : Number). given n (twoNumbers (c .before .before .before .before .args .letter) (c .before .before .before .before .args .first))) (sym (c .before .before .number .given .1))
+    let told = c .before .before in
+    let a = told .before .before .args in
+    c .two-numbers .ensures ∙ ap (λ (n : Number). given n (twoNumbers (a .letter) (a .first))) (sym (told .number .given .1))
 
 returns-3 : tie.Need-returns-3
 unfolding given

@@ -14,6 +14,9 @@ use Rattle.commands.proofs.Parsed.{parsed}
 use Rattle.commands.proofs.parse.Statement.{statement}
 use Rattle.commands.proofs.parse.Tie as tie
 
+one-more : (line : List ℕ) (i : ℕ) → i < length line → getD line i 0 ∷ drop (i + 1) line ≡ drop i line
+one-more line i h = ap (λ (k : ℕ). getD line i 0 ∷ drop k line) (add-one i) ∙ sym (drop-cons line i 0 h)
+
 abbrev Inv-loop : tie.InvT-loop
 Inv-loop line parser₀ i₀ parser i = (i ≤ length line) × (found (fed parser (drop i line)) ≡ commandOf line)
 
@@ -43,8 +46,7 @@ loop-again c =
     let more : at .loop .i < length line = omega arith in (
       omega arith,
       ap (λ (p : Parser). found (fed p (drop (at .loop .i + 1) line))) (c .step .ensures)
-          ∙ ap (λ (l : List ℕ). found (fed (at .loop .parser) l)) (sym (drop-cons line (at .loop .i) 0 more ∙ ap (λ (k : ℕ). getD line (at .loop .i) 0 ∷ drop k line) (sym (add-one (at .loop .i)))))
-          ∙ at .loop .inv .1,
+          ∙ ap (λ (l : List ℕ). found (fed (at .loop .parser) l)) (one-more line (at .loop .i) more) ∙ at .loop .inv .1,
     )
 
 finish-requires : tie.Need-finish-requires Inv-loop μ-loop

@@ -24,13 +24,13 @@ enum-told-2 c = search needs
 
 returns : tie.Need-returns
 unfolding withDigit
-returns c = 
+returns c =
     let told = c .before in
     c .digit-after .ensures ∙ ap (λ (z : Number). withDigit z (told .before .before .args .b)) (sym (told .enum-told .given .1))
 
 returns-2 : tie.Need-returns-2
 unfolding withDigit
-returns-2 c = 
+returns-2 c =
     let told = c .before .before in
     c .digit-after2 .ensures ∙ ap (λ (z : Number). withDigit z (told .before .before .args .b)) (sym (told .number .given .1))
 

@@ -49,8 +49,10 @@ same-length c = search needs
 returns : tie.Need-returns
 unfolding answerText
 returns c =
-    let call = c .before .before in
-    (retold (ap answerText (sym (call .before .before .before .before .answer .given .1))) (call .append-number .ensures .0), omega (arith, call .append-number .ensures .1))
+    let call = c .before .before in (
+      retold (ap answerText (sym (call .before .before .before .before .answer .given .1))) (call .append-number .ensures .0),
+      omega (arith, call .append-number .ensures .1),
+    )
 
 same-length-2 : tie.Need-same-length-2
 same-length-2 c = search needs
@@ -58,8 +60,10 @@ same-length-2 c = search needs
 returns-2 : tie.Need-returns-2
 unfolding answerText
 returns-2 c =
-    let call = c .before .before in
-    (retold (ap answerText (sym (call .before .before .before .before .answer2 .given .1))) (call .append-number2 .ensures .0), omega (arith, call .append-number2 .ensures .1))
+    let call = c .before .before in (
+      retold (ap answerText (sym (call .before .before .before .before .answer2 .given .1))) (call .append-number2 .ensures .0),
+      omega (arith, call .append-number2 .ensures .1),
+    )
 
 same-length-3 : tie.Need-same-length-3
 same-length-3 c = search needs
@@ -67,8 +71,10 @@ same-length-3 c = search needs
 returns-3 : tie.Need-returns-3
 unfolding answerText
 returns-3 c =
-    let call = c .before .before in
-    (retold (ap answerText (sym (call .before .before .before .before .answer3 .given .1))) (call .append-number3 .ensures .0), omega (arith, call .append-number3 .ensures .1))
+    let call = c .before .before in (
+      retold (ap answerText (sym (call .before .before .before .before .answer3 .given .1))) (call .append-number3 .ensures .0),
+      omega (arith, call .append-number3 .ensures .1),
+    )
 
 same-length-4 : tie.Need-same-length-4
 same-length-4 c = search needs
@@ -76,8 +82,10 @@ same-length-4 c = search needs
 returns-4 : tie.Need-returns-4
 unfolding answerText
 returns-4 c =
-    let call = c .before .before in
-    (retold (ap answerText (sym (call .before .before .before .before .answer4 .given .1))) (call .append-number4 .ensures .0), omega (arith, call .append-number4 .ensures .1))
+    let call = c .before .before in (
+      retold (ap answerText (sym (call .before .before .before .before .answer4 .given .1))) (call .append-number4 .ensures .0),
+      omega (arith, call .append-number4 .ensures .1),
+    )
 
 pub append-answer-spec : {M : Type 1} → statement M
 append-answer-spec =

@@ -40,8 +40,10 @@ unfolding readText
 returns c =
     let call = c .before .before in
     let told = call .before .before .before in
-    let x = told .before .before .before .args .first in
-    (retold (ap (λ (a : Answer). readText a x) (sym (told .enum-told .given .1))) (call .append-number .ensures .0), omega (arith, call .append-number .ensures .1))
+    let x = told .before .before .before .args .first in (
+      retold (ap (λ (a : Answer). readText a x) (sym (told .enum-told .given .1))) (call .append-number .ensures .0),
+      omega (arith, call .append-number .ensures .1),
+    )
 
 same-length-2 : tie.Need-same-length-2
 same-length-2 c = search needs
@@ -51,22 +53,28 @@ unfolding readText
 returns-2 c =
     let call = c .before .before in
     let told = call .before .before .before in
-    let x = told .before .before .before .args .first in
-    (retold (ap (λ (a : Answer). readText a x) (sym (told .enum-told2 .given .1))) (call .append-number2 .ensures .0), omega (arith, call .append-number2 .ensures .1))
+    let x = told .before .before .before .args .first in (
+      retold (ap (λ (a : Answer). readText a x) (sym (told .enum-told2 .given .1))) (call .append-number2 .ensures .0),
+      omega (arith, call .append-number2 .ensures .1),
+    )
 
 returns-3 : tie.Need-returns-3
 unfolding readText
 returns-3 c =
     let start = c .before .before .before in
-    let x = start .args .first in
-    (retold (ap (λ (a : Answer). readText a x) (sym (c .enum-told3 .given .1))) (appended-none (start .args .buf .now) (start .args .at)), omega arith)
+    let x = start .args .first in (
+      retold (ap (λ (a : Answer). readText a x) (sym (c .enum-told3 .given .1))) (appended-none (start .args .buf .now) (start .args .at)),
+      omega arith,
+    )
 
 returns-4 : tie.Need-returns-4
 unfolding readText
 returns-4 c =
     let start = c .before .before .before in
-    let x = start .args .first in
-    (retold (ap (λ (a : Answer). readText a x) (sym (c .enum-told4 .given .1))) (appended-none (start .args .buf .now) (start .args .at)), omega arith)
+    let x = start .args .first in (
+      retold (ap (λ (a : Answer). readText a x) (sym (c .enum-told4 .given .1))) (appended-none (start .args .buf .now) (start .args .at)),
+      omega arith,
+    )
 
 pub append-first-spec : {M : Type 1} → statement M
 append-first-spec =

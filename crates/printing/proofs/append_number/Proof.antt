@@ -40,7 +40,8 @@ returns c =
     let first = spelled .before .before .before .before in
     let start = first .before .before .before .before in
     let end = first .append .ensures in (
-      appended-number (spelled .spell .last .1 .0) (start .args .n) (spelled .spell .result) end (spelled .spell .kept .1 .0) (spelled .spell .ensures .0) (spelled .spell .ensures .1) (omega (arith, end .size, end .end)) (copied .copy .ensures),
+      appended-number (spelled .spell .last .1 .0) (start .args .n) (spelled .spell .result) end (spelled .spell .kept .1 .0)
+          (spelled .spell .ensures .0) (spelled .spell .ensures .1) (omega (arith, end .size, end .end)) (copied .copy .ensures),
       omega (arith, end .end),
     )
 

@@ -31,8 +31,10 @@ same-length c = search needs
 returns : tie.Need-returns
 unfolding recoverText
 returns c =
-    let call = c .before .before in
-    (retold (ap recoverText (sym (call .before .before .before .before .answer .given .1))) (call .append-number .ensures .0), omega (arith, call .append-number .ensures .1))
+    let call = c .before .before in (
+      retold (ap recoverText (sym (call .before .before .before .before .answer .given .1))) (call .append-number .ensures .0),
+      omega (arith, call .append-number .ensures .1),
+    )
 
 returns-2 : tie.Need-returns-2
 unfolding recoverText

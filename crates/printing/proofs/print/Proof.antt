@@ -47,8 +47,10 @@ unfolding lineOf
 returns c =
     let call = c .before .before in
     let told = call .before .before .before in
-    let a = told .before .before .before .args in
-    (call .print-write .ensures .0 ∙ ap (λ (z : Command). lineOf z (a .answer) (a .first)) (sym (told .command .given .1)), call .print-write .ensures .1)
+    let a = told .before .before .before .args in (
+      call .print-write .ensures .0 ∙ ap (λ (z : Command). lineOf z (a .answer) (a .first)) (sym (told .command .given .1)),
+      call .print-write .ensures .1,
+    )
 
 same-length-2 : tie.Need-same-length-2
 same-length-2 c = search needs
@@ -58,8 +60,10 @@ unfolding lineOf
 returns-2 c =
     let call = c .before .before in
     let told = call .before .before .before in
-    let a = told .before .before .before .args in
-    (call .print-read .ensures .0 ∙ ap (λ (z : Command). lineOf z (a .answer) (a .first)) (sym (told .command2 .given .1)), call .print-read .ensures .1)
+    let a = told .before .before .before .args in (
+      call .print-read .ensures .0 ∙ ap (λ (z : Command). lineOf z (a .answer) (a .first)) (sym (told .command2 .given .1)),
+      call .print-read .ensures .1,
+    )
 
 same-length-3 : tie.Need-same-length-3
 same-length-3 c = search needs
@@ -69,8 +73,10 @@ unfolding lineOf
 returns-3 c =
     let call = c .before .before in
     let told = call .before .before in
-    let a = told .before .before .before .args in
-    (call .print-recover .ensures .0 ∙ ap (λ (z : Command). lineOf z (a .answer) (a .first)) (sym (told .enum-told .given .1)), call .print-recover .ensures .1)
+    let a = told .before .before .before .args in (
+      call .print-recover .ensures .0 ∙ ap (λ (z : Command). lineOf z (a .answer) (a .first)) (sym (told .enum-told .given .1)),
+      call .print-recover .ensures .1,
+    )
 
 returns-4 : tie.Need-returns-4
 unfolding lineOf
@@ -86,8 +92,10 @@ unfolding lineOf
 returns-5 c =
     let call = c .before .before in
     let told = call .before .before .before in
-    let a = told .before .before .before .args in
-    (appended-all (call .append .ensures) ∙ ap (λ (z : Command). lineOf z (a .answer) (a .first)) (sym (told .enum-told3 .given .1)), omega (arith, call .append .ensures .end))
+    let a = told .before .before .before .args in (
+      appended-all (call .append .ensures) ∙ ap (λ (z : Command). lineOf z (a .answer) (a .first)) (sym (told .enum-told3 .given .1)),
+      omega (arith, call .append .ensures .end),
+    )
 
 pub print-spec : {M : Type 1} → statement M
 print-spec =

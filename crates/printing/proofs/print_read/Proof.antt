@@ -32,8 +32,10 @@ returns c =
     let last = c .before .before in
     let end = last .before .before .before .before .before in
     let answered = end .before .before .before .before in
-    let named = answered .before .before .before .before in
-    (four (named .append-number .ensures .0) (answered .append-answer .ensures .0) (end .append-first .ensures .0) (last .append .ensures), omega (arith, last .append .ensures .end))
+    let named = answered .before .before .before .before in (
+      four (named .append-number .ensures .0) (answered .append-answer .ensures .0) (end .append-first .ensures .0) (last .append .ensures),
+      omega (arith, last .append .ensures .end),
+    )
 
 pub print-read-spec : {M : Type 1} → statement M
 print-read-spec =

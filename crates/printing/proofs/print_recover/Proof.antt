@@ -32,8 +32,10 @@ returns c =
     let last = c .before .before in
     let end = last .before .before .before .before .before in
     let answered = end .before .before .before .before in
-    let named = answered .before .before .before .before in
-    (four (named .append .ensures) (answered .append-answer .ensures .0) (end .append-sum .ensures .0) (last .append2 .ensures), omega (arith, last .append2 .ensures .end))
+    let named = answered .before .before .before .before in (
+      four (named .append .ensures) (answered .append-answer .ensures .0) (end .append-sum .ensures .0) (last .append2 .ensures),
+      omega (arith, last .append2 .ensures .end),
+    )
 
 pub print-recover-spec : {M : Type 1} → statement M
 print-recover-spec =

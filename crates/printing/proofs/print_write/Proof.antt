@@ -28,8 +28,10 @@ returns : tie.Need-returns
 returns c =
     let last = c .before .before in
     let answered = last .before .before .before .before .before in
-    let named = answered .before .before .before .before in
-    (three (named .append-number .ensures .0) (answered .append-answer .ensures .0) (last .append .ensures), omega (arith, last .append .ensures .end))
+    let named = answered .before .before .before .before in (
+      three (named .append-number .ensures .0) (answered .append-answer .ensures .0) (last .append .ensures),
+      omega (arith, last .append .ensures .end),
+    )
 
 pub print-write-spec : {M : Type 1} → statement M
 print-write-spec =
