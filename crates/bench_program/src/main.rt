@@ -1,0 +1,306 @@
+// The bench program: formats a module of depth 1, runs the commands of its standard input on it, and prints a line for each.
+ghost use mathlib.Core.Path.{_≡_};
+ghost use Prim.Native.Nat.{_≤_};
+ghost use lib.ListN.{length, take};
+ghost use Rattle.commands.specs.declared.Command.the-variants.{Write, Read, Recover};
+ghost use Rattle.calls.specs.Call.{buffers};
+ghost use Rattle.bench_program.specs.Session.{ranTo, ran as ranOf, settled, allowanceAfter, toldTo, told};
+ghost use Rattle.bench_program.specs.Session.{stateOf, lineEnded, byteTaken, bytesTaken, hasLine, Took, Served};
+use answer::Answer;
+use commands::Command;
+use commands::Parser;
+use libc::STDIN_FILENO;
+use libc::STDOUT_FILENO;
+
+// What a call answered, and the first byte that it read.
+struct Outcome {
+    answer: Answer,
+    first: u8,
+}
+
+fn call_write(
+    keys: &[u8],
+    control: &mut [u8],
+    array: &mut [u8],
+    cache: &mut [u8],
+    line: u64,
+    byte: u8,
+    allowance: u64,
+) -> Outcome
+    ensures { λ r. ⌜ ranTo (r .answer) (r .first) (now (array .exit)) (now (control .exit)) (now (cache .exit))
+        ≡ ranOf (now (keys .entry)) (Write line byte) allowance
+        (buffers (now (array .entry)) (now (control .entry)) (now (cache .entry))) ⌝ }
+{
+    let text = [byte; 64];
+    let answer = write::write(keys, control, array, cache, line, &text, allowance);
+    Outcome { answer, first: 0 }
+}
+
+fn call_read(
+    keys: &[u8],
+    control: &mut [u8],
+    array: &mut [u8],
+    cache: &mut [u8],
+    line: u64,
+    allowance: u64,
+) -> Outcome
+    ensures { λ r. ⌜ ranTo (r .answer) (r .first) (now (array .exit)) (now (control .exit)) (now (cache .exit))
+        ≡ ranOf (now (keys .entry)) (Read line) allowance (buffers (now (array .entry)) (now (control .entry)) (now (cache .entry))) ⌝ }
+{
+    let mut out = [0u8; 64];
+    let answer = read::read(keys, control, array, cache, line, &mut out, allowance);
+    Outcome {
+        answer,
+        first: out[0],
+    }
+}
+
+fn call_recover(
+    keys: &[u8],
+    control: &mut [u8],
+    array: &mut [u8],
+    cache: &mut [u8],
+    allowance: u64,
+) -> Outcome
+    ensures { λ r. ⌜ ranTo (r .answer) (r .first) (now (array .exit)) (now (control .exit)) (now (cache .exit))
+        ≡ ranOf (now (keys .entry)) Recover allowance (buffers (now (array .entry)) (now (control .entry)) (now (cache .entry))) ⌝ }
+{
+    let answer = recovery::recover(keys, control, array, cache, allowance);
+    Outcome { answer, first: 0 }
+}
+
+// Makes the call of a command.
+fn call(
+    keys: &[u8],
+    control: &mut [u8],
+    array: &mut [u8],
+    cache: &mut [u8],
+    command: Command,
+    allowance: u64,
+) -> Outcome
+    ensures { λ r. ⌜ ranTo (r .answer) (r .first) (now (array .exit)) (now (control .exit)) (now (cache .exit))
+        ≡ ranOf (now (keys .entry)) command allowance (buffers (now (array .entry)) (now (control .entry)) (now (cache .entry))) ⌝ }
+{
+    match command {
+        Command::Write { line, byte } => {
+            call_write(keys, control, array, cache, line, byte, allowance)
+        }
+        Command::Read { line } => call_read(keys, control, array, cache, line, allowance),
+        Command::Recover => call_recover(keys, control, array, cache, allowance),
+        Command::Allow { n: _ } => Outcome {
+            answer: Answer::Done { stores: 0, sum: 0 },
+            first: 0,
+        },
+        Command::Unknown => Outcome {
+            answer: Answer::Done { stores: 0, sum: 0 },
+            first: 0,
+        },
+    }
+}
+
+// A cut zeroes the cache.
+fn settle(cache: &mut [u8], answer: Answer)
+    ensures { λ _. ⌜ now (cache .exit) ≡ settled answer (now (cache .entry)) ⌝ }
+{
+    if let Answer::Cut { stores: _ } = answer {
+        let n = cache.len();
+        words::zero(cache, 0, n);
+    }
+}
+
+fn allowance_after(command: Command, allowance: u64) -> u64
+    ensures { λ r. ⌜ r ≡ allowanceAfter command allowance ⌝ }
+{
+    match command {
+        Command::Write { line: _, byte: _ } => u64::MAX,
+        Command::Read { line: _ } => u64::MAX,
+        Command::Recover => u64::MAX,
+        Command::Allow { n } => n,
+        Command::Unknown => allowance,
+    }
+}
+
+// Runs a command and writes the line that it prints; tells the length of the line.
+fn run(
+    keys: &[u8],
+    control: &mut [u8],
+    array: &mut [u8],
+    cache: &mut [u8],
+    command: Command,
+    allowance: u64,
+    line: &mut [u8],
+) -> usize
+    requires { ⌜ length (now line) ≡ 80 ⌝ }
+    ensures { λ r. ⌜ toldTo (now (array .exit)) (now (control .exit)) (now (cache .exit)) (take r (now (line .exit)))
+        ≡ told (now (keys .entry)) command allowance (buffers (now (array .entry)) (now (control .entry)) (now (cache .entry))) ⌝ }
+    ensures { λ r. ⌜ r ≤ 80 ⌝ }
+{
+    let outcome = call(keys, control, array, cache, command, allowance);
+    let answer = outcome.answer;
+    settle(cache, answer);
+    printing::print(line, command, answer, outcome.first)
+}
+
+// What is kept between two bytes of the input.
+struct Session {
+    parser: Parser,
+    allowance: u64,
+}
+
+// Runs the command of a line that has ended, and prints.
+fn end_line(
+    keys: &[u8],
+    control: &mut [u8],
+    array: &mut [u8],
+    cache: &mut [u8],
+    session: Session,
+) -> Session
+    ensures { λ r. ⌜ stateOf (r .parser) (r .allowance) (now (array .exit)) (now (control .exit)) (now (cache .exit))
+        ≡ lineEnded (now (keys .entry)) (stateOf (session .parser) (session .allowance)
+        (now (array .entry)) (now (control .entry)) (now (cache .entry))) ⌝ }
+{
+    let parser = session.parser;
+    let command = commands::finish(parser);
+    let mut line = [0u8; 80];
+    let n = run(
+        keys,
+        control,
+        array,
+        cache,
+        command,
+        session.allowance,
+        &mut line,
+    );
+    io::write_all(STDOUT_FILENO, &line[..n]);
+    Session {
+        parser: Parser::Start,
+        allowance: allowance_after(command, session.allowance),
+    }
+}
+
+fn take_byte(
+    keys: &[u8],
+    control: &mut [u8],
+    array: &mut [u8],
+    cache: &mut [u8],
+    session: Session,
+    b: u8,
+) -> Session
+    ensures { λ r. ⌜ stateOf (r .parser) (r .allowance) (now (array .exit)) (now (control .exit)) (now (cache .exit))
+        ≡ byteTaken (now (keys .entry)) (stateOf (session .parser) (session .allowance)
+        (now (array .entry)) (now (control .entry)) (now (cache .entry))) b ⌝ }
+{
+    if b == b'\n' {
+        return end_line(keys, control, array, cache, session);
+    }
+    let parser = session.parser;
+    Session {
+        parser: commands::step(parser, b),
+        allowance: session.allowance,
+    }
+}
+
+// Takes a part of the input.
+fn take_bytes(
+    keys: &[u8],
+    control: &mut [u8],
+    array: &mut [u8],
+    cache: &mut [u8],
+    session: Session,
+    input: &[u8],
+) -> Session
+    ensures { λ r. ⌜ stateOf (r .parser) (r .allowance) (now (array .exit)) (now (control .exit)) (now (cache .exit))
+        ≡ bytesTaken (now (keys .entry)) (stateOf (session .parser) (session .allowance)
+        (now (array .entry)) (now (control .entry)) (now (cache .entry))) (now (input .entry)) ⌝ }
+{
+    let mut state = session;
+    let mut i = 0;
+    while i < input.len() {
+        let next = take_byte(keys, control, array, cache, state, input[i]);
+        state = next;
+        i += 1;
+    }
+    state
+}
+
+// One read of the standard input: whatever bytes it gave, they were taken.
+struct Taken {
+    session: Session,
+    ended: bool,
+}
+
+fn turn(
+    keys: &[u8],
+    control: &mut [u8],
+    array: &mut [u8],
+    cache: &mut [u8],
+    session: Session,
+) -> Taken
+    ensures { λ r. ⌜ Took (now (keys .entry))
+        (stateOf (session .parser) (session .allowance) (now (array .entry)) (now (control .entry)) (now (cache .entry)))
+        (stateOf (r .session .parser) (r .session .allowance) (now (array .exit)) (now (control .exit)) (now (cache .exit))) ⌝ }
+{
+    let mut input = io::buffer();
+    let got = libc::read(STDIN_FILENO, &mut input);
+    let n = io::count(got, &input);
+    Taken {
+        session: take_bytes(keys, control, array, cache, session, &input[..n]),
+        ended: n == 0,
+    }
+}
+
+// Whether a last line is there.
+fn has_line(parser: Parser) -> bool
+    ensures { λ r. ⌜ r ≡ hasLine parser ⌝ }
+{
+    match parser {
+        Parser::Start => false,
+        Parser::Letter { letter: _ } => true,
+        Parser::First {
+            letter: _,
+            number: _,
+        } => true,
+        Parser::Second {
+            letter: _,
+            first: _,
+            number: _,
+        } => true,
+        Parser::Other => true,
+    }
+}
+
+// Takes the input to its end. A proved loop has to end, so it counts its turns down, from a number that no run uses up.
+fn serve(keys: &[u8], control: &mut [u8], array: &mut [u8], cache: &mut [u8])
+    ensures { λ _. ⌜ Served (now (keys .entry)) (buffers (now (array .entry)) (now (control .entry)) (now (cache .entry)))
+        (buffers (now (array .exit)) (now (control .exit)) (now (cache .exit))) ⌝ }
+{
+    let mut session = Session {
+        parser: Parser::Start,
+        allowance: u64::MAX,
+    };
+    let mut turns = u64::MAX;
+    while turns > 0 {
+        let taken = turn(keys, control, array, cache, session);
+        let after = taken.session;
+        session = after;
+        turns -= 1;
+        if taken.ended {
+            turns = 0;
+        }
+    }
+    let parser = session.parser;
+    if has_line(parser) {
+        end_line(keys, control, array, cache, session);
+    }
+}
+
+fn main() {
+    let keys = b"\x00\x01\x02\x03\x04\x05\x06\x07\x08\x09\x0a\x0b\x0c\x0d\x0e\x0f\
+        \x10\x11\x12\x13\x14\x15\x16\x17\x18\x19\x1a\x1b\x1c\x1d\x1e\x1f\
+        \x20\x21\x22\x23\x24\x25\x26\x27\x28\x29\x2a\x2b\x2c\x2d\x2e\x2f";
+    let mut control = [0u8; 664];
+    let mut array = [0u8; 37944];
+    let mut cache = [0u8; 438];
+    format::format(1, keys, &mut control, &mut array, &mut cache);
+    serve(keys, &mut control, &mut array, &mut cache);
+}

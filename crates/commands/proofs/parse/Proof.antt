@@ -1,0 +1,76 @@
+-- `commands::parse` meets its contract. Assumes nothing.
+use mathlib.Core.Path.{_≡_, refl, sym, ap, _∙_}
+use native.Mathlib.Omega.{arith}
+use mathlib.Core.List.{List, _∷_}
+use Prim.Native.Nat.{ℕ, _+_, _-_, _≤_, _<_, zero-le}
+use native.Mathlib.Numerals.{add-one}
+use lib.ListN.{length, drop, getD, drop-of-length-le}
+use lib.Seq.{drop-cons}
+use Rattle.commands.specs.declared.Parser.{Parser}
+use borrow.Author.Needs.{needs}
+use Rattle.commands.specs.Language.{commandOf}
+use Rattle.commands.specs.Machine.{found, fed}
+use Rattle.commands.proofs.Parsed.{parsed}
+use Rattle.commands.proofs.parse.Statement.{statement}
+use Rattle.commands.proofs.parse.Tie as tie
+
+one-more : (line : List ℕ) (i : ℕ) → i < length line → getD line i 0 ∷ drop (i + 1) line ≡ drop i line
+one-more line i h = ap (λ (k : ℕ). getD line i 0 ∷ drop k line) (add-one i) ∙ sym (drop-cons line i 0 h)
+
+abbrev Inv-loop : tie.InvT-loop
+Inv-loop line parser₀ i₀ parser i = (i ≤ length line) × (found (fed parser (drop i line)) ≡ commandOf line)
+
+abbrev μ-loop : tie.MeasureT-loop
+μ-loop line parser₀ i₀ parser i = length line - i
+
+loop-holds : tie.Need-loop-holds Inv-loop μ-loop
+loop-holds c = (zero-le, parsed (c .before .args .line .now))
+
+shared-slice-read-b : tie.Need-shared-slice-read-b Inv-loop μ-loop
+shared-slice-read-b c = omega arith
+
+step-requires : tie.Need-step-requires Inv-loop μ-loop
+step-requires c κs = search needs
+
+add-i : tie.Need-add-i Inv-loop μ-loop
+add-i c = omega arith
+
+loop-less : tie.Need-loop-less Inv-loop μ-loop
+loop-less c = omega arith
+
+loop-again : tie.Need-loop-again Inv-loop μ-loop
+unfolding fed
+loop-again c =
+    let at = c .before .before .before in
+    let line = at .before .before .args .line .now in
+    let more : at .loop .i < length line = omega arith in (
+      omega arith,
+      ap (λ (p : Parser). found (fed p (drop (at .loop .i + 1) line))) (c .step .ensures)
+          ∙ ap (λ (l : List ℕ). found (fed (at .loop .parser) l)) (one-more line (at .loop .i) more) ∙ at .loop .inv .1,
+    )
+
+finish-requires : tie.Need-finish-requires Inv-loop μ-loop
+finish-requires c κs = search needs
+
+returns : tie.Need-returns Inv-loop μ-loop
+unfolding fed
+returns c =
+    let at = c .before .before in
+    let line = at .before .before .args .line .now in
+    let ended : length line ≤ at .loop .i = omega arith in
+    c .finish .ensures ∙ ap (λ (l : List ℕ). found (fed (at .loop .parser) l)) (sym (drop-of-length-le line ended)) ∙ at .loop .inv .1
+
+pub parse-spec : {M : Type 1} → statement M
+parse-spec =
+    tie.close
+    (tie.spec
+    Inv-loop
+    μ-loop
+    loop-holds
+    shared-slice-read-b
+    step-requires
+    add-i
+    loop-less
+    loop-again
+    finish-requires
+    returns)

@@ -1,0 +1,32 @@
+-- `commands::second_part` meets its contract. Assumes nothing.
+use mathlib.Core.Path.{_≡_, refl, sym, ap, _∙_}
+use native.Mathlib.Omega.{arith}
+use Rattle.commands.specs.Machine.{secondPart}
+use borrow.Author.Needs.{needs}
+use Rattle.commands.proofs.second_part.Statement.{statement}
+use Rattle.commands.proofs.second_part.Tie as tie
+
+enum-told : tie.Need-enum-told
+enum-told c = search needs
+
+enum-known-number : tie.Need-enum-known-number
+enum-known-number c = search needs
+
+enum-told-2 : tie.Need-enum-told-2
+enum-told-2 c = search needs
+
+returns : tie.Need-returns
+unfolding secondPart
+returns c = cc
+
+returns-2 : tie.Need-returns-2
+unfolding secondPart
+returns-2 c = cc
+
+returns-3 : tie.Need-returns-3
+unfolding secondPart
+returns-3 c = cc
+
+pub second-part-spec : {M : Type 1} → statement M
+second-part-spec =
+    tie.close (tie.spec enum-told enum-known-number enum-told-2 returns returns-2 returns-3)
