@@ -83,7 +83,7 @@ def rebuilt(start):
     blocks = literal(module.cache[:4 * 73] + bytes(len(module.cache) - 4 * 73))
     return theorem("blocks", "rebuildBlocks 1 (start .array) 0 (%s) (emptyCache 1) 0\n    ≡ rebuilt (%s) 1" % (
         octets(owners[:4]), blocks), " start") + theorem(
-        "nodes", "rebuildNodes 1 (upTo 48 0) (start .array) 4 (%s) (%s)\n    ≡ %s" % (
+        "nodes", "rebuildNodes 1 (upTo 48 0) (start .array) 4 (%s)\n    (%s)\n    ≡ %s" % (
             octets(owners[4:]), blocks, literal(module.cache)), " start")
 
 

@@ -114,7 +114,8 @@ unfolding run sparse upTo start
 blocks = refl
 
 nodes :
-    rebuildNodes 1 (upTo 48 0) (start .array) 4 (1 ∷ 0 ∷ []) (sparse ((0, 1 ∷ 0 ∷ 0 ∷ 0 ∷ 0 ∷ 0 ∷ 0 ∷ 0 ∷ 1 ∷ 0 ∷ 0 ∷ 0 ∷ 0 ∷ 0 ∷ 0 ∷ 0 ∷ 0 ∷ 1 ∷ [])
+    rebuildNodes 1 (upTo 48 0) (start .array) 4 (1 ∷ 0 ∷ [])
+    (sparse ((0, 1 ∷ 0 ∷ 0 ∷ 0 ∷ 0 ∷ 0 ∷ 0 ∷ 0 ∷ 1 ∷ 0 ∷ 0 ∷ 0 ∷ 0 ∷ 0 ∷ 0 ∷ 0 ∷ 0 ∷ 1 ∷ [])
     ∷ (420, [])
     ∷ []))
     ≡ sparse ((0, 1 ∷ 0 ∷ 0 ∷ 0 ∷ 0 ∷ 0 ∷ 0 ∷ 0 ∷ 1 ∷ 0 ∷ 0 ∷ 0 ∷ 0 ∷ 0 ∷ 0 ∷ 0 ∷ 0 ∷ 1 ∷ [])

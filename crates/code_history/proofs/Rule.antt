@@ -11,7 +11,20 @@ use Rattle.calls.specs.Read.{Reading}
 use Rattle.calls.specs.Format.{format}
 use Rattle.calls.specs.Recovery.{recover}
 use Rattle.calls.specs.DirtyPages.{listRefusal, Lists, ListCall}
-use Rattle.calls.specs.History.{Event, recovers, step, listCall, AreBytes, Allowed, moduleAfter, bookOf, emptyBook, NotRefused, Restored, HistoryRule}
+use Rattle.calls.specs.History.{
+  Event,
+  recovers,
+  step,
+  listCall,
+  AreBytes,
+  Allowed,
+  moduleAfter,
+  bookOf,
+  emptyBook,
+  NotRefused,
+  Restored,
+  HistoryRule,
+}
 use Rattle.history_laws.proofs.Rule.{history-rule}
 use Rattle.code_history.proofs.Steps.{
   Formatted,
@@ -55,8 +68,8 @@ unfolding moduleAfter
 run-defined (none m) = refl
 run-defined (next {es = es} s r) = ap (λ (x : Called). moduleAfter (x .after) es) (step-defined s) ∙ run-defined r
 
--- in every run of the five functions from a format that is done, whose list of events is allowed: a recovery with the same keys is not refused,
--- and one that is done restores what the book of the list up to it says
+-- in every run of the five functions from a format that is done, whose list of events is allowed: a recovery with the same keys is not
+-- refused, and one that is done restores what the book of the list up to it says
 pub code-history : (f : Formatted) → f .answer ≡ Done 0 0 → (m : Module) (es rest : List Event) → Run (formatAfter f) es m
     → (r : Recovered) → recoverBefore r ≡ m
     → let keys = f .args .1 .0 .now in let h = f .args .0 in

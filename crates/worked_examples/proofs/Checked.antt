@@ -6,5 +6,6 @@ use Rattle.memory_map.specs.Map.{pages, lines, nodes, levelStart, slots, shadow
 use Rattle.worked_examples.specs.Table.{table, computedColumn, saidColumn}
 
 pub checked : computedColumn table ≡ saidColumn table
-unfolding table computedColumn saidColumn number digits major minors counterBlock withMinor forward mayForward pages lines nodes levelStart slots shadowStart cellOf
+unfolding table computedColumn saidColumn number digits major minors counterBlock withMinor forward mayForward pages lines nodes levelStart
+    slots shadowStart cellOf
 checked = refl
