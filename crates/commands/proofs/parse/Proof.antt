@@ -1,13 +1,13 @@
 -- `commands::parse` meets its contract. Assumes nothing.
-use mathlib.Core.Path.{_≡_, refl, sym, ap, _∙_}
-use native.Mathlib.Omega.{arith}
+use mathlib.Core.Path.{_≡_, sym, ap, _∙_}
 use mathlib.Core.List.{List, _∷_}
 use Prim.Native.Nat.{ℕ, _+_, _-_, _≤_, _<_, zero-le}
+use native.Mathlib.Omega.{arith}
 use native.Mathlib.Numerals.{add-one}
+use borrow.Author.Needs.{needs}
 use lib.ListN.{length, drop, getD, drop-of-length-le}
 use lib.Seq.{drop-cons}
 use Rattle.commands.specs.declared.Parser.{Parser}
-use borrow.Author.Needs.{needs}
 use Rattle.commands.specs.Language.{commandOf}
 use Rattle.commands.specs.Machine.{found, fed}
 use Rattle.commands.proofs.Parsed.{parsed}
