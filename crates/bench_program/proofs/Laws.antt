@@ -1,16 +1,14 @@
 -- Laws of a command's run. Assumes nothing.
 use mathlib.Core.Path.{_≡_, refl, sym, ap, ap₂, _∙_}
-use mathlib.Core.Bool.{Bool, true, false, cond}
 use mathlib.Core.Logic.{inl, inr}
+use mathlib.Core.Bool.{Bool, true, false, cond}
 use mathlib.Core.List.{List, [], _∷_, _++_}
 use denote.Enum.Declared.{tagOf}
 use types.Run.{OneOf}
 use Prim.Native.Nat.{ℕ, _+_, _≤_, _<_}
-use native.Mathlib.Numerals.{add-one}
 use native.Mathlib.Omega.{arith}
 use borrow.Author.Tests.{eq-eqb, ne-eqb}
 use lib.ListN.{length, drop, getD, drop-of-length-le}
-use lib.Seq.{drop-cons}
 use Rattle.answer.specs.declared.Answer.{Answer}
 use Rattle.answer.specs.declared.Answer.the-variants.{Done, Blank, Cut, Refused}
 use Rattle.answer.proofs.Answer.{the-type}
@@ -19,6 +17,7 @@ use Rattle.commands.specs.declared.Command.{Command}
 use Rattle.commands.specs.declared.Parser.{Parser}
 use Rattle.commands.specs.declared.Parser.the-variants.{Start}
 use Rattle.commands.specs.Machine.{next, found}
+use Rattle.commands.proofs.Steps.{byte-more}
 use Rattle.printing.specs.Printed.{lineOf}
 use Rattle.bench_program.specs.Session.{ranTo, ran, settled, unlimited, allowanceAfter, Told, toldTo, settledTo, told}
 use Rattle.bench_program.specs.Session.{State, stateOf, lineEnded, byteTaken, bytesTaken, hasLine, inputEnded, started, Took, Served}
@@ -62,9 +61,7 @@ module _ (keys : List ℕ) (s : State) (input : List ℕ) (i : ℕ) where
   pub taken-one : i < length input → bytesTaken keys (byteTaken keys s (getD input i 0)) (drop (i + 1) input)
       ≡ bytesTaken keys s (drop i input)
   unfolding bytesTaken
-  taken-one h =
-      ap (bytesTaken keys s)
-      (ap (λ (j : ℕ). getD input i 0 ∷ drop j input) (add-one i) ∙ sym (drop-cons input i 0 h))
+  taken-one h = ap (bytesTaken keys s) (byte-more input i h)
 
   pub taken-all : length input ≤ i → s ≡ bytesTaken keys s (drop i input)
   unfolding bytesTaken

@@ -6,10 +6,9 @@ use Prim.Native.Nat.{ℕ}
 use lib.Dec.{eqb, leb}
 use Rattle.commands.specs.declared.Number.{Number}
 use Rattle.commands.specs.declared.Number.the-variants.{Empty, Value, Bad}
-use Rattle.commands.specs.declared.Command.{Command}
-use Rattle.commands.specs.declared.Command.the-variants.{Write, Read, Recover, Allow, Unknown}
+use Rattle.commands.specs.declared.Command.the-variants.{Write, Read, Allow, Unknown}
 use Rattle.commands.specs.declared.Parser.{Parser}
-use Rattle.commands.specs.declared.Parser.the-variants.{Start, Letter, First, Second, Other}
+use Rattle.commands.specs.declared.Parser.the-variants.{Start, First, Second, Other}
 use Rattle.commands.specs.Decimal.{decimal}
 use Rattle.commands.specs.Language.{isSpace, onFirst, parts, isLetter, given, commandOfParts, commandOf}
 use Rattle.commands.specs.Machine.{withDigit, afterByte, secondPart, afterSpace, next, fed, noNumber, oneNumber, twoNumbers, found}

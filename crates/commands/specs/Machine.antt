@@ -1,8 +1,8 @@
 -- The parser: what it keeps of a line's bytes so far, byte by byte, so that a line may be of any length. That it finds the command
 -- of the language is `proofs/Parsed.antt`. Assumes nothing.
-use Prim.Native.Nat.{ℕ, _+_, _-_, _*_}
-use mathlib.Core.Bool.{Bool, cond}
+use mathlib.Core.Bool.{cond}
 use mathlib.Core.List.{List, [], _∷_}
+use Prim.Native.Nat.{ℕ, _+_, _-_, _*_}
 use lib.Dec.{leb, eqb}
 use Rattle.commands.specs.declared.Number.{Number}
 use Rattle.commands.specs.declared.Number.the-variants.{Empty, Value, Bad}

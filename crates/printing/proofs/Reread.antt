@@ -1,19 +1,18 @@
 -- A printed number is read back as itself, and has no leading zero. Assumes nothing.
-use mathlib.Core.Path.{_≡_, refl, sym, ap, ap₂, _∙_}
+use mathlib.Core.Path.{_≡_, refl, ap, ap₂, _∙_}
 use mathlib.Core.Logic.{⊎-elim}
 use mathlib.Core.Bool.{Bool, true, false, _&&_, cond}
 use mathlib.Core.List.{List, [], _∷_, _++_}
 use Prim.Native.Nat.{ℕ, zero, suc, _+_, _-_, _*_, _/_, _%_, _^_, _≤_, _<_}
 use native.Mathlib.Nat.{not-suc-le-zero}
 use native.Mathlib.Omega.{arith}
-use lib.ListN.{length, getD, length-append, List·getD-append}
 use borrow.Author.Tests.{lt-ltb, le-ltb, le-leb}
+use lib.ListN.{length, getD, length-append, List·getD-append}
 use Rattle.words.proofs.Order.{lt-or-ge}
-use Rattle.commands.specs.declared.Number.{Number}
 use Rattle.commands.specs.declared.Number.the-variants.{Value, Bad}
 use Rattle.commands.specs.Decimal.{isDigit, allDigits, valueFrom, below64, decimal}
-use Rattle.printing.specs.Printed.{digitsOf, printed}
 use Rattle.commands.proofs.Numbers.{fits}
+use Rattle.printing.specs.Printed.{digitsOf, printed}
 
 -- ---- a digit behind digits
 

@@ -1,9 +1,8 @@
 -- `bench_program::allowance_after` meets its contract. Assumes nothing.
-use mathlib.Core.Path.{_≡_, refl, sym, ap, _∙_}
-use native.Mathlib.Omega.{arith}
+use mathlib.Core.Path.{sym, ap}
+use borrow.Author.Needs.{needs}
 use Rattle.commands.specs.declared.Command.{Command}
 use Rattle.bench_program.specs.Session.{allowanceAfter}
-use borrow.Author.Needs.{needs}
 use Rattle.bench_program.proofs.allowance_after.Statement.{statement}
 use Rattle.bench_program.proofs.allowance_after.Tie as tie
 

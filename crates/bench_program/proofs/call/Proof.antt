@@ -1,10 +1,9 @@
 -- `bench_program::call` meets its contract. Assumes nothing.
-use mathlib.Core.Path.{_≡_, refl, sym, ap, _∙_}
-use native.Mathlib.Omega.{arith}
-use Rattle.commands.specs.declared.Command.{Command}
-use Rattle.calls.specs.Call.{buffers}
-use Rattle.bench_program.specs.Session.{Ran, ran}
+use mathlib.Core.Path.{sym, ap, _∙_}
 use borrow.Author.Needs.{needs}
+use Rattle.calls.specs.Call.{buffers}
+use Rattle.commands.specs.declared.Command.{Command}
+use Rattle.bench_program.specs.Session.{Ran, ran}
 use Rattle.bench_program.proofs.call.Statement.{statement}
 use Rattle.bench_program.proofs.call.Tie as tie
 

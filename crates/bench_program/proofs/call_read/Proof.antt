@@ -1,8 +1,7 @@
 -- `bench_program::call_read` meets its contract. Assumes nothing.
-use mathlib.Core.Path.{_≡_, refl, sym, ap, _∙_}
-use native.Mathlib.Omega.{arith}
-use Rattle.bench_program.specs.Session.{ran, readTo}
+use mathlib.Core.Path.{ap}
 use borrow.Author.Needs.{needs}
+use Rattle.bench_program.specs.Session.{ran, readTo}
 use Rattle.bench_program.proofs.call_read.Statement.{statement}
 use Rattle.bench_program.proofs.call_read.Tie as tie
 

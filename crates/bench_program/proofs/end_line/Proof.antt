@@ -1,12 +1,12 @@
 -- `bench_program::end_line` meets its contract. Assumes nothing.
-use mathlib.Core.Path.{_≡_, refl, sym, ap, _∙_}
-use native.Mathlib.Omega.{arith}
-use Rattle.bench_program.proofs.Laws.{line-run}
+use mathlib.Core.Path.{sym}
 use Prim.Native.Nat.{_≤_}
+use native.Mathlib.Omega.{arith}
+use borrow.Author.Needs.{needs}
 use lib.ListN.{length}
 use lib.Seq.{length-take-le}
 use Rattle.calls.specs.Call.{buffers}
-use borrow.Author.Needs.{needs}
+use Rattle.bench_program.proofs.Laws.{line-run}
 use Rattle.bench_program.proofs.end_line.Statement.{statement}
 use Rattle.bench_program.proofs.end_line.Tie as tie
 

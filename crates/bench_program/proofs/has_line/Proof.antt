@@ -1,8 +1,7 @@
 -- `bench_program::has_line` meets its contract. Assumes nothing.
-use mathlib.Core.Path.{_≡_, refl, sym, ap, _∙_}
-use native.Mathlib.Omega.{arith}
-use Rattle.bench_program.specs.Session.{hasLine}
+use mathlib.Core.Path.{sym, ap}
 use borrow.Author.Needs.{needs}
+use Rattle.bench_program.specs.Session.{hasLine}
 use Rattle.bench_program.proofs.has_line.Statement.{statement}
 use Rattle.bench_program.proofs.has_line.Tie as tie
 

@@ -1,9 +1,7 @@
 -- `bench_program::run` meets its contract. Assumes nothing.
-use mathlib.Core.Path.{_≡_, refl, sym, ap, _∙_}
-use native.Mathlib.Omega.{arith}
-use Rattle.bench_program.proofs.Laws.{told-run}
-use Rattle.calls.specs.Call.{buffers}
 use borrow.Author.Needs.{needs}
+use Rattle.calls.specs.Call.{buffers}
+use Rattle.bench_program.proofs.Laws.{told-run}
 use Rattle.bench_program.proofs.run.Statement.{statement}
 use Rattle.bench_program.proofs.run.Tie as tie
 

@@ -1,8 +1,8 @@
 -- `bench_program::serve` meets its contract. Assumes nothing.
-use mathlib.Core.Path.{_≡_, refl, sym, ap, _∙_}
+use mathlib.Core.Path.{sym, _∙_}
 use native.Mathlib.Omega.{arith}
-use Rattle.bench_program.proofs.Laws.{Going, going-first, going-on, served, served-line}
 use borrow.Author.Needs.{needs}
+use Rattle.bench_program.proofs.Laws.{Going, going-first, going-on, served, served-line}
 use Rattle.bench_program.proofs.serve.Statement.{statement}
 use Rattle.bench_program.proofs.serve.Tie as tie
 

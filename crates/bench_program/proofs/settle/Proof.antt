@@ -1,12 +1,11 @@
 -- `bench_program::settle` meets its contract. Assumes nothing.
-use mathlib.Core.Path.{_≡_, refl, sym, ap, _∙_}
-use native.Mathlib.Omega.{arith}
+use mathlib.Core.Path.{sym, ap, _∙_}
+use borrow.Author.Needs.{needs}
 use lib.ListN.{length, replicate, length-replicate}
 use Rattle.words.proofs.Parts.{put-all}
 use Rattle.answer.specs.declared.Answer.{Answer}
-use Rattle.bench_program.proofs.Laws.{settled-else}
 use Rattle.bench_program.specs.Session.{settled}
-use borrow.Author.Needs.{needs}
+use Rattle.bench_program.proofs.Laws.{settled-else}
 use Rattle.bench_program.proofs.settle.Statement.{statement}
 use Rattle.bench_program.proofs.settle.Tie as tie
 

@@ -1,10 +1,9 @@
 -- `bench_program::take_byte` meets its contract. Assumes nothing.
-use mathlib.Core.Path.{_≡_, refl, sym, ap, _∙_}
-use native.Mathlib.Omega.{arith}
-use Rattle.bench_program.proofs.Laws.{newline, no-newline}
+use mathlib.Core.Path.{ap, _∙_}
+use borrow.Author.Needs.{needs}
 use Rattle.commands.specs.declared.Parser.{Parser}
 use Rattle.bench_program.specs.Session.{State, stateOf}
-use borrow.Author.Needs.{needs}
+use Rattle.bench_program.proofs.Laws.{newline, no-newline}
 use Rattle.bench_program.proofs.take_byte.Statement.{statement}
 use Rattle.bench_program.proofs.take_byte.Tie as tie
 

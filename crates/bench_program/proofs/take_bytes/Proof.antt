@@ -1,10 +1,10 @@
 -- `bench_program::take_bytes` meets its contract. Assumes nothing.
-use mathlib.Core.Path.{_≡_, refl, sym, ap, _∙_}
+use mathlib.Core.Path.{_≡_, refl, ap, _∙_}
+use Prim.Native.Nat.{_+_, _-_, _≤_, _<_, zero-le}
 use native.Mathlib.Omega.{arith}
+use borrow.Author.Needs.{needs}
 use lib.ListN.{length, drop}
 use Rattle.bench_program.specs.Session.{State, stateOf, bytesTaken}
-use borrow.Author.Needs.{needs}
-use Prim.Native.Nat.{_+_, _-_, _≤_, _<_, zero-le}
 use Rattle.bench_program.proofs.Laws.{taken-one, taken-all}
 use Rattle.bench_program.proofs.take_bytes.Statement.{statement}
 use Rattle.bench_program.proofs.take_bytes.Tie as tie

@@ -1,10 +1,9 @@
 -- `commands::after_byte` meets its contract. Assumes nothing.
-use mathlib.Core.Path.{_≡_, refl, sym, ap, _∙_}
-use native.Mathlib.Omega.{arith}
-use Rattle.commands.specs.Machine.{afterByte}
+use mathlib.Core.Path.{sym, ap, _∙_}
+use borrow.Author.Needs.{needs}
 use Rattle.commands.specs.declared.Parser.{Parser}
 use Rattle.commands.specs.declared.Parser.the-variants.{First, Second}
-use borrow.Author.Needs.{needs}
+use Rattle.commands.specs.Machine.{afterByte}
 use Rattle.commands.proofs.after_byte.Statement.{statement}
 use Rattle.commands.proofs.after_byte.Tie as tie
 

@@ -1,8 +1,6 @@
 -- `commands::after_space` meets its contract. Assumes nothing.
-use mathlib.Core.Path.{_≡_, refl, sym, ap, _∙_}
-use native.Mathlib.Omega.{arith}
-use Rattle.commands.specs.Machine.{afterSpace}
 use borrow.Author.Needs.{needs}
+use Rattle.commands.specs.Machine.{afterSpace}
 use Rattle.commands.proofs.after_space.Statement.{statement}
 use Rattle.commands.proofs.after_space.Tie as tie
 

@@ -1,8 +1,7 @@
 -- `commands::digit_after` meets its contract. Assumes nothing.
-use mathlib.Core.Path.{_≡_, refl, sym, ap, _∙_}
 use native.Mathlib.Omega.{arith}
-use Rattle.commands.proofs.Numbers.{too-small, too-large, too-many, one-more}
 use borrow.Author.Needs.{needs}
+use Rattle.commands.proofs.Numbers.{too-small, too-large, too-many, one-more}
 use Rattle.commands.proofs.digit_after.Statement.{statement}
 use Rattle.commands.proofs.digit_after.Tie as tie
 

@@ -1,10 +1,9 @@
 -- `commands::end_first` meets its contract. Assumes nothing.
-use mathlib.Core.Path.{_≡_, refl, sym, ap, _∙_}
-use native.Mathlib.Omega.{arith}
+use mathlib.Core.Path.{sym, ap, _∙_}
+use borrow.Author.Needs.{needs}
 use Rattle.commands.specs.declared.Number.{Number}
 use Rattle.commands.specs.Language.{given}
 use Rattle.commands.specs.Machine.{oneNumber}
-use borrow.Author.Needs.{needs}
 use Rattle.commands.proofs.end_first.Statement.{statement}
 use Rattle.commands.proofs.end_first.Tie as tie
 

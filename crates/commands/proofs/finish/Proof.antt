@@ -1,8 +1,7 @@
 -- `commands::finish` meets its contract. Assumes nothing.
-use mathlib.Core.Path.{_≡_, refl, sym, ap, _∙_}
-use native.Mathlib.Omega.{arith}
-use Rattle.commands.specs.Machine.{found}
+use mathlib.Core.Path.{sym, ap, _∙_}
 use borrow.Author.Needs.{needs}
+use Rattle.commands.specs.Machine.{found}
 use Rattle.commands.proofs.finish.Statement.{statement}
 use Rattle.commands.proofs.finish.Tie as tie
 

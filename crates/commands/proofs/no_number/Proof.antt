@@ -1,5 +1,4 @@
 -- `commands::no_number` meets its contract. Assumes nothing.
-use mathlib.Core.Path.{_≡_, refl, sym, ap, _∙_}
 use native.Mathlib.Omega.{arith}
 use Rattle.commands.proofs.Steps.{is-p, not-p}
 use Rattle.commands.proofs.no_number.Statement.{statement}

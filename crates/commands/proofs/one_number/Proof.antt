@@ -1,5 +1,4 @@
 -- `commands::one_number` meets its contract. Assumes nothing.
-use mathlib.Core.Path.{_≡_, refl, sym, ap, _∙_}
 use native.Mathlib.Omega.{arith}
 use Rattle.commands.proofs.Steps.{is-r, is-k, not-r-k}
 use Rattle.commands.proofs.one_number.Statement.{statement}

@@ -1,21 +1,17 @@
 -- `commands::parse` meets its contract. Assumes nothing.
-use mathlib.Core.Path.{_≡_, refl, sym, ap, _∙_}
-use native.Mathlib.Omega.{arith}
-use mathlib.Core.List.{List, _∷_}
+use mathlib.Core.Path.{_≡_, sym, ap, _∙_}
+use mathlib.Core.List.{List}
 use Prim.Native.Nat.{ℕ, _+_, _-_, _≤_, _<_, zero-le}
-use native.Mathlib.Numerals.{add-one}
-use lib.ListN.{length, drop, getD, drop-of-length-le}
-use lib.Seq.{drop-cons}
-use Rattle.commands.specs.declared.Parser.{Parser}
+use native.Mathlib.Omega.{arith}
 use borrow.Author.Needs.{needs}
+use lib.ListN.{length, drop, drop-of-length-le}
+use Rattle.commands.specs.declared.Parser.{Parser}
 use Rattle.commands.specs.Language.{commandOf}
 use Rattle.commands.specs.Machine.{found, fed}
 use Rattle.commands.proofs.Parsed.{parsed}
+use Rattle.commands.proofs.Steps.{byte-more}
 use Rattle.commands.proofs.parse.Statement.{statement}
 use Rattle.commands.proofs.parse.Tie as tie
-
-one-more : (line : List ℕ) (i : ℕ) → i < length line → getD line i 0 ∷ drop (i + 1) line ≡ drop i line
-one-more line i h = ap (λ (k : ℕ). getD line i 0 ∷ drop k line) (add-one i) ∙ sym (drop-cons line i 0 h)
 
 abbrev Inv-loop : tie.InvT-loop
 Inv-loop line parser₀ i₀ parser i = (i ≤ length line) × (found (fed parser (drop i line)) ≡ commandOf line)
@@ -46,7 +42,7 @@ loop-again c =
     let more : at .loop .i < length line = omega arith in (
       omega arith,
       ap (λ (p : Parser). found (fed p (drop (at .loop .i + 1) line))) (c .step .ensures)
-          ∙ ap (λ (l : List ℕ). found (fed (at .loop .parser) l)) (one-more line (at .loop .i) more) ∙ at .loop .inv .1,
+          ∙ ap (λ (l : List ℕ). found (fed (at .loop .parser) l)) (byte-more line (at .loop .i) more) ∙ at .loop .inv .1,
     )
 
 finish-requires : tie.Need-finish-requires Inv-loop μ-loop

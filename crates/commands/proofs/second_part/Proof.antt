@@ -1,8 +1,6 @@
 -- `commands::second_part` meets its contract. Assumes nothing.
-use mathlib.Core.Path.{_≡_, refl, sym, ap, _∙_}
-use native.Mathlib.Omega.{arith}
-use Rattle.commands.specs.Machine.{secondPart}
 use borrow.Author.Needs.{needs}
+use Rattle.commands.specs.Machine.{secondPart}
 use Rattle.commands.proofs.second_part.Statement.{statement}
 use Rattle.commands.proofs.second_part.Tie as tie
 

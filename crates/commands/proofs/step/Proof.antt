@@ -1,8 +1,8 @@
 -- `commands::step` meets its contract. Assumes nothing.
-use mathlib.Core.Path.{_≡_, refl, sym, ap, _∙_}
+use mathlib.Core.Path.{_∙_}
 use native.Mathlib.Omega.{arith}
-use Rattle.commands.proofs.Steps.{space, no-space}
 use borrow.Author.Needs.{needs}
+use Rattle.commands.proofs.Steps.{space, no-space}
 use Rattle.commands.proofs.step.Statement.{statement}
 use Rattle.commands.proofs.step.Tie as tie
 

@@ -1,9 +1,8 @@
 -- `commands::with_digit` meets its contract. Assumes nothing.
-use mathlib.Core.Path.{_≡_, refl, sym, ap, _∙_}
-use native.Mathlib.Omega.{arith}
-use Rattle.commands.specs.Machine.{withDigit}
-use Rattle.commands.specs.declared.Number.{Number}
+use mathlib.Core.Path.{sym, ap, _∙_}
 use borrow.Author.Needs.{needs}
+use Rattle.commands.specs.declared.Number.{Number}
+use Rattle.commands.specs.Machine.{withDigit}
 use Rattle.commands.proofs.with_digit.Statement.{statement}
 use Rattle.commands.proofs.with_digit.Tie as tie
 

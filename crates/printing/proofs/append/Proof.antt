@@ -1,12 +1,12 @@
 -- `printing::append` meets its contract. Assumes nothing.
-use mathlib.Core.Path.{_≡_, refl, sym, ap, _∙_}
-use native.Mathlib.Omega.{arith}
+use mathlib.Core.Path.{refl, ap, _∙_}
 use mathlib.Core.List.{List}
 use Prim.Native.Nat.{ℕ}
+use native.Mathlib.Omega.{arith}
+use borrow.Author.Needs.{needs}
 use lib.Seq.{take-length}
 use Rattle.words.specs.Bytes.{put}
 use Rattle.printing.proofs.Spelled.{appended-put}
-use borrow.Author.Needs.{needs}
 use Rattle.printing.proofs.append.Statement.{statement}
 use Rattle.printing.proofs.append.Tie as tie
 

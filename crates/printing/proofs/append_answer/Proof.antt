@@ -1,9 +1,9 @@
 -- `printing::append_answer` meets its contract. Assumes nothing.
-use mathlib.Core.Path.{_≡_, refl, sym, ap, _∙_}
+use mathlib.Core.Path.{sym, ap}
 use native.Mathlib.Omega.{arith}
+use borrow.Author.Needs.{needs}
 use Rattle.printing.specs.Printed.{answerText}
 use Rattle.printing.proofs.Spelled.{retold}
-use borrow.Author.Needs.{needs}
 use Rattle.printing.proofs.append_answer.Statement.{statement}
 use Rattle.printing.proofs.append_answer.Tie as tie
 

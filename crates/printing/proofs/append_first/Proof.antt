@@ -1,10 +1,10 @@
 -- `printing::append_first` meets its contract. Assumes nothing.
-use mathlib.Core.Path.{_≡_, refl, sym, ap, _∙_}
+use mathlib.Core.Path.{sym, ap}
 use native.Mathlib.Omega.{arith}
+use borrow.Author.Needs.{needs}
 use Rattle.answer.specs.declared.Answer.{Answer}
 use Rattle.printing.specs.Printed.{readText}
 use Rattle.printing.proofs.Spelled.{retold, appended-none}
-use borrow.Author.Needs.{needs}
 use Rattle.printing.proofs.append_first.Statement.{statement}
 use Rattle.printing.proofs.append_first.Tie as tie
 

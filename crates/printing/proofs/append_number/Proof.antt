@@ -1,8 +1,7 @@
 -- `printing::append_number` meets its contract. Assumes nothing.
-use mathlib.Core.Path.{_≡_, refl, sym, ap, _∙_}
 use native.Mathlib.Omega.{arith}
-use Rattle.printing.proofs.Spelled.{appended-number}
 use borrow.Author.Needs.{needs}
+use Rattle.printing.proofs.Spelled.{appended-number}
 use Rattle.printing.proofs.append_number.Statement.{statement}
 use Rattle.printing.proofs.append_number.Tie as tie
 

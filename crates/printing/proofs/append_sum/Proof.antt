@@ -1,9 +1,9 @@
 -- `printing::append_sum` meets its contract. Assumes nothing.
-use mathlib.Core.Path.{_≡_, refl, sym, ap, _∙_}
+use mathlib.Core.Path.{sym, ap}
 use native.Mathlib.Omega.{arith}
+use borrow.Author.Needs.{needs}
 use Rattle.printing.specs.Printed.{recoverText}
 use Rattle.printing.proofs.Spelled.{retold, appended-none}
-use borrow.Author.Needs.{needs}
 use Rattle.printing.proofs.append_sum.Statement.{statement}
 use Rattle.printing.proofs.append_sum.Tie as tie
 

@@ -1,11 +1,10 @@
 -- `printing::print` meets its contract. Assumes nothing.
-use mathlib.Core.Path.{_≡_, refl, sym, ap, _∙_}
+use mathlib.Core.Path.{sym, ap, _∙_}
 use native.Mathlib.Omega.{arith}
-use Rattle.answer.specs.declared.Answer.{Answer}
+use borrow.Author.Needs.{needs}
 use Rattle.commands.specs.declared.Command.{Command}
 use Rattle.printing.specs.Printed.{lineOf}
 use Rattle.printing.proofs.Spelled.{appended-all}
-use borrow.Author.Needs.{needs}
 use Rattle.printing.proofs.print.Statement.{statement}
 use Rattle.printing.proofs.print.Tie as tie
 

@@ -1,8 +1,7 @@
 -- `printing::print_write` meets its contract. Assumes nothing.
-use mathlib.Core.Path.{_≡_, refl, sym, ap, _∙_}
 use native.Mathlib.Omega.{arith}
-use Rattle.printing.proofs.Spelled.{three}
 use borrow.Author.Needs.{needs}
+use Rattle.printing.proofs.Spelled.{three}
 use Rattle.printing.proofs.print_write.Statement.{statement}
 use Rattle.printing.proofs.print_write.Tie as tie
 

@@ -1,12 +1,11 @@
 -- `printing::spell` meets its contract. Assumes nothing.
-use mathlib.Core.Path.{_≡_, refl, sym, ap, _∙_}
+use mathlib.Core.Path.{_≡_, _∙_}
+use mathlib.Core.List.{_++_}
+use Prim.Native.Nat.{suc, _≤_, _<_, _^_}
 use native.Mathlib.Omega.{arith}
 use lib.ListN.{length, drop, length-set}
 use Rattle.printing.specs.Printed.{digitsOf, printed}
 use Rattle.printing.proofs.Spelled.{spelled-first, digit-next, digit-last, digit-room}
-use borrow.Author.Needs.{needs}
-use Prim.Native.Nat.{suc, _≤_, _<_, _^_}
-use mathlib.Core.List.{_++_}
 use Rattle.printing.proofs.spell.Statement.{statement}
 use Rattle.printing.proofs.spell.Tie as tie
 
