@@ -1,9 +1,5 @@
 -- `node::current` meets its contract. Assumes nothing.
-use mathlib.Core.Path.{_≡_, sym, ap, _∙_}
-use Prim.Native.Nat.{_+_, _*_, _≤_}
-use lib.ListN.{length}
-use borrow.Author.Needs.{needs}
-use Rattle.memory_map.proofs.Laws.{in-map-node}
+use mathlib.Core.Path.{sym, ap, _∙_}
 use Rattle.cache.specs.Cache.{content, cellContent}
 use Rattle.cache.proofs.Laws.{current-cached, current-missing}
 use Rattle.node.proofs.Laws.{slotted, cell-room}
