@@ -1,16 +1,14 @@
 -- Every code of an answer fits the C side's number: refusals go up to 29. Assumes nothing.
-use mathlib.Core.Path.{_≡_, refl, sym, ap, _∙_, subst}
 use mathlib.Core.Bool.{Bool, true, false, cond}
-use mathlib.Core.Option.{Option, none, some}
 use mathlib.Core.List.{List, [], _∷_}
-use Prim.Native.Nat.{ℕ, zero, suc, _≤_, _<_, zero-le}
+use Prim.Native.Nat.{ℕ, zero, suc, _≤_, zero-le}
 use native.Mathlib.Omega.{arith}
 use lib.Dec.{eqb, lit≤}
 use lib.ListN.{length}
 use Rattle.answer.specs.Answer.{codeOf}
 use Rattle.answer.specs.declared.Answer.{Answer}
 use Rattle.answer.specs.declared.Answer.the-variants.{Done, Blank, Cut, Refused}
-use Rattle.control.specs.Control.{Cell, depth, root}
+use Rattle.control.specs.Control.{depth, root}
 use Rattle.cache.specs.declared.Found.{Found}
 use Rattle.cache.specs.declared.Found.the-variants.{Nothing, At}
 use Rattle.tag.specs.Tag.{nodeTag}
@@ -19,8 +17,8 @@ use Rattle.journal.specs.Journal.{Store, batchStores, isCut, pendingStores}
 use Rattle.calls.specs.Path.{Loaded, loaded, differs}
 use Rattle.calls.specs.Call.{Module, Called, judged, accessRefusal, refuse, storing, pathOf}
 use Rattle.calls.specs.Read.{Reading, lineMinor, sideOk, answered, readLoaded, readPath, readJudged, read}
-use Rattle.calls.specs.Write.{writeStores, writtenCache, writeLoaded, writePath, writeJudged, write}
-use Rattle.calls.specs.Recovery.{Rebuilt, rebuilt, damaged, recoveryRefusal, recoverRoot, recoverRebuilt, recoverShadow, recoverMedia}
+use Rattle.calls.specs.Write.{writeLoaded, writePath, writeJudged, write}
+use Rattle.calls.specs.Recovery.{Rebuilt, rebuilt, damaged, recoveryRefusal, recoverRoot, recoverRebuilt, recoverShadow}
 use Rattle.calls.specs.Recovery.{recoverJudged, recover}
 use Rattle.calls.specs.Format.{formatRefusal, formatted, format}
 use Rattle.calls.specs.DirtyPages.{listRefusal}

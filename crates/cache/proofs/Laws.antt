@@ -366,10 +366,6 @@ pub owner-holds : (c : List ℕ) (l i : ℕ) → owner c (slotOf l i) ≡ suc i 
 unfolding holds
 owner-holds c l i e = eq-eqb (owner c (slotOf l i)) (suc i) e
 
-pub other-holds : (c : List ℕ) (l i : ℕ) → (owner c (slotOf l i) ≡ suc i → ⊥) → holds c l i ≡ false
-unfolding holds
-other-holds c l i e = ne-eqb (owner c (slotOf l i)) (suc i) e
-
 pub current-cached : (h : ℕ) (a c : List ℕ) (l i : ℕ) → holds c l i ≡ true → current h a c l i ≡ content c (slotOf l i)
 unfolding current
 current-cached h a c l i e = ap (λ (b : Bool). cond b (content c (slotOf l i)) (cellContent a (cellOf h (node l i)))) e
@@ -418,14 +414,3 @@ module _ (h : ℕ) (c : List ℕ) (sized : length c ≡ cacheLength h) (s : ℕ)
   pub holds-other : (l i : ℕ) → (slotOf l i ≡ s → ⊥) → holds (withSlot c s o d b) l i ≡ holds c l i
   unfolding holds
   holds-other l i e = ap (λ (k : ℕ). eqb k (suc i)) (owner-other h c sized s within o d b full (slotOf l i) e)
-
-  pub current-same : (a : List ℕ) (l i : ℕ) → s ≡ slotOf l i → o ≡ suc i → o < 2 ^ 64 → current h a (withSlot c s o d b) l i ≡ b
-  current-same a l i e p q =
-      current-cached h a (withSlot c s o d b) l i (holds-same l i e p q) ∙ ap (content (withSlot c s o d b)) (sym e)
-      ∙ content-same h c sized s within o d b full
-
-  pub current-other : (a : List ℕ) (l i : ℕ) → (slotOf l i ≡ s → ⊥) → current h a (withSlot c s o d b) l i ≡ current h a c l i
-  unfolding current
-  current-other a l i e =
-      ap₂ {C = List ℕ} (λ (t : Bool) (x : List ℕ). cond t x (cellContent a (cellOf h (node l i)))) (holds-other l i e)
-      (content-other h c sized s within o d b full (slotOf l i) e)

@@ -1,46 +1,46 @@
 -- No call changes the length of a buffer, and bytes stay bytes. Assumes nothing.
 use mathlib.Core.Path.{_≡_, refl, sym, ap, _∙_, subst}
 use mathlib.Core.Bool.{Bool, true, false, cond}
-use mathlib.Core.List.{List, [], _∷_, _++_}
+use mathlib.Core.List.{List}
 use Prim.Native.Nat.{ℕ, zero, suc, _+_, _*_, _/_, _%_, _≤_, _<_, zero-le}
-use native.Mathlib.Nat.{le-refl, mul-div-cancel-left, sub-zero}
+use native.Mathlib.Nat.{le-refl, mul-div-cancel-left}
 use native.Mathlib.Omega.{arith}
 use lib.Dec.{eqb, lit<}
-use lib.ListN.{length, replicate, length-append, length-replicate}
+use lib.ListN.{length, replicate, length-replicate}
 use borrow.Author.Tests.{lt-ltb}
 use Rattle.words.specs.Bytes.{toLe}
-use Rattle.words.proofs.Digits.{Below, below-append, below-cons, below-digits, length-digits}
-use Rattle.memory_map.specs.Map.{cells, arrayLength, pages, pageOf, placeOf, nodes, InMap, cellOf, onPath}
+use Rattle.words.proofs.Digits.{Below, below-digits, length-digits}
+use Rattle.memory_map.specs.Map.{cells, arrayLength, pages, pageOf, placeOf, InMap, cellOf, onPath}
 use Rattle.slot_map.specs.Slots.{cacheLength, slotOf}
 use Rattle.words.proofs.Parts.{length-put, below-put}
-use Rattle.tag.specs.Tag.{nodeTag, dataTag}
+use Rattle.tag.specs.Tag.{nodeTag}
 use Rattle.memory_map.specs.Map.Item.{line}
-use Rattle.memory_map.proofs.Laws.{cells-small, cell-within, page-inside}
+use Rattle.memory_map.proofs.Laws.{cells-small, page-inside}
 use Rattle.slot_map.proofs.Laws.{slot-within}
 use Rattle.control.specs.Control.{Cell, controlLength, depth, root, inMap}
 use Rattle.cache.specs.Cache.{formed, content, cellContent}
 use Rattle.cache.proofs.Laws.{formed-facts, length-with, below-with, content-length, content-below, cell-length, cell-below, slot-room}
 use Rattle.journal.specs.Journal.{Store, storeAll, made, isCut, batchStores}
-use Rattle.journal.proofs.Each.{Each, none, more, each-append}
+use Rattle.journal.proofs.Each.{Each, none, more}
 use Rattle.journal.proofs.Kept.{Within, within-batch, made-kept, Formed as Media·Formed}
 use Rattle.journal.proofs.Queue.{Whole}
 use Rattle.answer.specs.declared.Answer.{Answer}
 use Rattle.answer.specs.declared.Answer.the-variants.{Done, Blank, Cut}
-use Rattle.calls.specs.Path.{Loaded, loaded, differs, renewed, renewPath, nodeCell}
+use Rattle.calls.specs.Path.{Loaded, loaded, differs, renewed, renewPath}
 use Rattle.counter.specs.Counter.{major}
 use Rattle.counter.proofs.Laws.{length-withMinor, below-withMinor}
-use Rattle.pad.specs.Pad.{pad, xorBytes}
+use Rattle.pad.specs.Pad.{pad}
 use Rattle.pad.proofs.Nonce.{length-pad, below-pad}
 use Rattle.pad.proofs.Xor.{length-xor, below-xor}
 use Rattle.calls.specs.Call.{Module, Called, mediaOf, withMedia, refuse, storing, pathOf, accessRefusal}
-use Rattle.calls.specs.Read.{Reading, answered, pageBlock, lineMinor, refusedRead, sideBytes}
+use Rattle.calls.specs.Read.{Reading, answered, pageBlock, lineMinor, refusedRead}
 use Rattle.calls.specs.Read.{sideOk, lineText, readLoaded, readPath, readJudged, read}
 use Rattle.calls.specs.Write.{newMinor, newBlock, stopLoss, dataCell, writeBatch, writeStores}
 use Rattle.calls.specs.Write.{writtenCache, writeLoaded, writePath, writeJudged, write}
 use Rattle.call_laws.specs.Line.{lineCell, blockCells}
 use Rattle.call_laws.proofs.Judged.{Opened, Accepted, access-accepted, head-of}
 use Rattle.call_laws.proofs.Line.{Lent, all-length, all-sound, block-few}
-use Rattle.call_laws.proofs.Loads.{Sound, Fit, Loads, LoadsIf, path-loads, sound-node, zeros-bytes}
+use Rattle.call_laws.proofs.Loads.{Sound, Fit, Loads, LoadsIf, path-loads, zeros-bytes}
 
 -- the buffers of a module hold bytes
 pub record Bytes (m : Module) : Type 0 where

@@ -2,17 +2,16 @@
 use mathlib.Core.Path.{_≡_, refl, sym, ap, ap₂, _∙_, subst}
 use mathlib.Core.Bool.{Bool, true, false, _&&_, and-eq-true-iff}
 use mathlib.Core.List.{List, [], _∷_, _++_}
-use Prim.Native.Nat.{ℕ, zero, suc, _+_, _-_, _*_, _^_, _≤_, _<_}
+use Prim.Native.Nat.{ℕ, zero, suc, _+_, _-_, _*_, _≤_, _<_}
 use native.Mathlib.Nat.{add-zero, zero-add, add-assoc, suc-add, not-suc-le-zero, le-of-suc-le-suc}
 use native.Mathlib.Omega.{arith}
 use borrow.Author.Tests.{lt-ltb, le-ltb, le-leb, lt-leb, eq-eqb, ne-eqb, leb-true, ltb-true}
 use lib.Dec.{ltb, leb, eqb, lit<, lit≤}
-use lib.ListN.{length, getD, take, drop, length-append}
-use lib.Seq.{take-at, drop-at, take-all, take-take, drop-drop, getD-drop}
-use Rattle.words.specs.Bytes.{number, fromLe, toLe, part, put}
-use Rattle.words.proofs.Digits.{length-digits, number-exact}
+use lib.ListN.{length, getD, take, drop}
+use lib.Seq.{take-take, drop-drop, getD-drop}
+use Rattle.words.specs.Bytes.{number, fromLe, part}
 use Rattle.words.proofs.Parts.{part-part}
-use Rattle.words.proofs.Puts.{part-put-before, part-put-in, getD-part}
+use Rattle.words.proofs.Puts.{getD-part}
 use Rattle.memory_map.specs.Map.{cells}
 use Rattle.control.specs.Control.{mark, depth, root, count, newRoot, Cell, queued, places, queue, inMap, validHead, valid}
 
@@ -185,26 +184,6 @@ same-places s t at i n e =
     ap (λ (j : ℕ). places s j n) (sym (add-zero at)) ∙ sym (places-within s at (80 * n) 0 n (omega arith))
     ∙ ap (λ (l : List ℕ). places l 0 n) e
     ∙ places-within t i (80 * n) 0 n (omega arith) ∙ ap (λ (j : ℕ). places t j n) (add-zero i)
-
--- one more place, behind n others
-pub push-place : (s : List ℕ) (n x : ℕ) (bs : List ℕ) → length bs ≡ 72 → 80 * (n + 1) ≤ length s → x < 2 ^ 64
-    → places (put s (80 * n) (toLe 8 x ++ bs)) 0 (n + 1) ≡ places s 0 n ++ (record { number = x; bytes = bs } ∷ [])
-unfolding queued
-push-place s n x bs l h w =
-    let word = length-digits 256 8 x in
-    let size = length-append (toLe 8 x) bs in
-    let t = put s (80 * n) (toLe 8 x ++ bs) in
-    let number : part t (80 * n) 8 ≡ toLe 8 x =
-    ap (λ (i : ℕ). part t i 8) (sym (add-zero (80 * n)))
-    ∙ part-put-in s (80 * n) (toLe 8 x ++ bs) (omega arith) 0 8 (omega arith) ∙ take-at (toLe 8 x) bs 8 word in
-    let cell : part t (80 * n + 8) 72 ≡ bs =
-    part-put-in s (80 * n) (toLe 8 x ++ bs) (omega arith) 8 72 (omega arith)
-    ∙ ap (take 72) (drop-at (toLe 8 x) bs 8 word) ∙ take-all 72 bs (omega arith) in
-    places-snoc t 0 n
-    ∙ ap₂ {C = List Cell} (λ (l : List Cell) (i : ℕ). l ++ (queued t i ∷ []))
-    (same-places t s 0 0 n (part-put-before s (80 * n) (toLe 8 x ++ bs) (omega arith) 0 (80 * n) (omega arith))) (zero-add (80 * n))
-    ∙ ap₂ {C = List Cell} (λ (y : ℕ) (b : List ℕ). places s 0 n ++ (record { number = y; bytes = b } ∷ []))
-    (ap fromLe number ∙ number-exact 256 8 x (lit< tt) w) cell
 
 -- two records that agree from byte 15 on, in the first 24 bytes, or in the first 7
 module _ (k t : List ℕ) where

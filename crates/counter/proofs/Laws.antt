@@ -1,14 +1,13 @@
 -- Laws of the counter block: its major and its minors determine it, and a 64-bit word of it has the minors of a group. Assumes nothing.
 use mathlib.Core.Path.{_≡_, refl, sym, ap, ap₂, _∙_}
 use mathlib.Core.List.{List, _++_}
-use mathlib.Core.Logic.{_≢_}
 use Prim.Native.Nat.{ℕ, _+_, _-_, _*_, _/_, _%_, _^_, _≤_, _<_}
 use native.Mathlib.Nat.{mod-lt, div-div-eq-div-mul}
 use native.Mathlib.Omega.{arith}
 use lib.Dec.{lit<}
 use lib.Pow.{pow-add}
-use lib.ListN.{length, take, drop, getD, set, replicate, length-append, length-take, length-drop, length-set, take-append-drop}
-use lib.Seq.{take-at, drop-at, getD-set-same, getD-set-other}
+use lib.ListN.{length, take, drop, set, replicate, length-append, length-take, length-drop, length-set, take-append-drop}
+use lib.Seq.{take-at, drop-at}
 use Rattle.words.specs.Bytes.{number, digits, fromLe, toLe, part, put}
 use Rattle.words.proofs.Digits.{Below, below-append, below-take, below-drop, below-set, length-digits, below-digits, getD-digits}
 use Rattle.words.proofs.Digits.{number-append, number-drop, number-take, number-exact, digits-exact, number-lt-exact, pow-mul, number-inj}
@@ -88,23 +87,6 @@ pub below-withMinor : (b : List ℕ) (j v : ℕ) → Below 256 (withMinor b j v)
 unfolding withMinor
 below-withMinor b j v = below-counterBlock (major b) (set (minors b) j v)
 
-pub minors-withMinor : (b : List ℕ) (j v : ℕ) → v < 128 → minors (withMinor b j v) ≡ set (minors b) j v
-unfolding withMinor
-minors-withMinor b j v hv =
-    minors-counterBlock (major b) (set (minors b) j v) (length-set-minors b j v) (below-set-minors b j v hv)
-
-pub major-withMinor : (b : List ℕ) (j v : ℕ) → Below 256 b → major (withMinor b j v) ≡ major b
-unfolding withMinor
-major-withMinor b j v hb = major-counterBlock (major b) (set (minors b) j v) (major-lt b hb)
-
-pub minor-withMinor-same : (b : List ℕ) (j v : ℕ) → j < 64 → v < 128 → minor (withMinor b j v) j ≡ v
-minor-withMinor-same b j v hj hv =
-    ap (λ (l : List ℕ). getD l j 0) (minors-withMinor b j v hv) ∙ getD-set-same (minors b) j v 0 (rw length-minors hj)
-
-pub minor-withMinor-other : (b : List ℕ) (j v i : ℕ) → v < 128 → i ≢ j → minor (withMinor b j v) i ≡ minor b i
-minor-withMinor-other b j v i hv hi =
-    ap (λ (l : List ℕ). getD l i 0) (minors-withMinor b j v hv) ∙ getD-set-other (minors b) j i v 0 hi
-
 -- bit 8 + 7i of the word at byte 7 + 7g is the first of minor 8g + i
 place : (j : ℕ) → 256 ^ (7 + j / 8 * 7) * 2 ^ (8 + j % 8 * 7) ≡ 2 ^ 64 * 128 ^ j
 place j =
@@ -170,10 +152,6 @@ put-minor b j v w hl hb hj hv hw e =
     (length-put b at (toLe 8 x) (rw size fits) ∙ hl ∙ sym (length-withMinor b j v))
     (omega (arith, ap (λ (y : ℕ). y * 256 ^ at) word))
 
-pub forward-phase : (s p : ℕ) → forward s p % 4 ≡ p % 4
-unfolding forward
-forward-phase s p = omega arith
-
 pub forward-ge : (s p : ℕ) → s ≤ forward s p
 unfolding forward
 forward-ge s p = omega arith
@@ -185,7 +163,3 @@ forward-le s p = omega arith
 pub forward-reaches : (s m : ℕ) → s ≤ m → m ≤ s + 3 → forward s (m % 4) ≡ m
 unfolding forward
 forward-reaches s m h k = omega arith
-
-pub forward-stays : (s p : ℕ) → p ≡ s % 4 → forward s p ≡ s
-unfolding forward
-forward-stays s p h = omega arith

@@ -3,7 +3,7 @@ use mathlib.Core.Path.{_≡_, refl, sym, ap, ap₂, _∙_, subst}
 use mathlib.Core.Bool.{true, cond, and-eq-true-iff}
 use mathlib.Core.Logic.{_⊎_, inl, inr}
 use mathlib.Core.List.{List, [], _∷_, _++_, map, append-assoc}
-use Prim.Native.Nat.{ℕ, suc, _+_, _-_, _*_, _/_, _^_, _≤_, _<_}
+use Prim.Native.Nat.{ℕ, _+_, _*_, _/_, _≤_, _<_}
 use native.Mathlib.Omega.{arith}
 use borrow.Author.Tests.{ltb-true}
 use lib.Dec.{ltb, lit<, lit≤}
@@ -15,15 +15,15 @@ use Rattle.words.proofs.Order.{lt-or-ge, lt-eq-gt}
 use Rattle.words.proofs.Parts.{length-put}
 use Rattle.words.proofs.Puts.{drop-put, part-put-same, part-put-before, getD-part, put-put, put-comm}
 use Rattle.control.specs.Control.{Cell, controlLength, queue, count, newRoot, inMap}
-use Rattle.control.proofs.Laws.{count-at, length-places, same-count, same-new-root, same-queue}
+use Rattle.control.proofs.Laws.{count-at, same-count, same-new-root, same-queue}
 use Rattle.journal.specs.Journal.{Store, Media, media, store, storeAll, finish, batchStores, pendingStores, made}
 use Rattle.journal.specs.Journal.Store.{cell, root, clear}
 use Rattle.journal.proofs.Each.{Each, none, more, each-append, each-take}
-use Rattle.journal.proofs.Laws.{length-finish, length-batch, made-all, pending-some, pending-none, finish-cells, finish-root}
+use Rattle.journal.proofs.Laws.{length-finish, pending-some, pending-none, finish-cells, finish-root}
 use Rattle.journal.proofs.Laws.{store-append}
-use Rattle.journal.proofs.Queue.{Whole, whole-places, laid, length-laid, committed, committed-count, committed-queue}
-use Rattle.journal.proofs.Queue.{committed-pending, cut-staged, cut-committed}
-use Rattle.journal.proofs.Kept.{Formed, within-batch, made-kept}
+use Rattle.journal.proofs.Queue.{Whole, whole-places, laid, length-laid}
+use Rattle.journal.proofs.Queue.{cut-staged}
+use Rattle.journal.proofs.Kept.{Formed}
 
 -- ---- cells stored in an array
 
@@ -156,10 +156,6 @@ module _ (size : ℕ) (m : Media) (f : Formed size m) (few : count (m .control) 
   unfolding queue
   inside = inside-cells size (whole-places (m .control) 24 (count (m .control)) (omega (arith, f .control-length)) (f .control-bytes)) e
 
-  many : length cs ≡ count (m .control)
-  unfolding queue
-  many = length-places (m .control) 24 (count (m .control))
-
   -- after j cells; after the root; after count 0
   abbrev celled : ℕ → Media
   celled j = media (put-cells (m .array) (take j cs)) (m .control)
@@ -237,19 +233,6 @@ module _ (size : ℕ) (m : Media) (f : Formed size m) (few : count (m .control) 
           let empty = pending-none (m .control) (omega arith) in
           resumed {t = m} (ap (λ (xs : List Store). storeAll m (take j xs)) empty ∙ ap (storeAll m) (take-nil j)) refl refl
 
-  -- once all of them are made, nothing is pending
-  pub again-none : pendingStores (storeAll m (pendingStores (m .control)) .control) ≡ []
-  unfolding storeAll
-  again-none = go (lt-or-ge 0 (count (m .control)))
-    where
-      go : (0 < count (m .control)) ⊎ (count (m .control) ≤ 0) → pendingStores (storeAll m (pendingStores (m .control)) .control) ≡ []
-      go (inl h) =
-          ap (λ (x : Media). pendingStores (x .control)) (ap (storeAll m) (pending-some (m .control) h) ∙ finish-stores m cs r)
-          ∙ cleared-pending (rooted (m .control) r) long
-      go (inr h) =
-          let empty = pending-none (m .control) (omega arith) in
-          ap (λ (xs : List Store). pendingStores (storeAll m xs .control)) empty ∙ empty
-
 -- ---- a batch that was cut
 
 module _ (size : ℕ) (a k : List ℕ) (cs : List Cell) (r : ℕ) (f : Formed size (media a k)) (ws : Each Whole cs)
@@ -265,28 +248,3 @@ module _ (size : ℕ) (a k : List ℕ) (cs : List Cell) (r : ℕ) (f : Formed si
         ap (λ (m : Media). part (m .control) 0 24) s
             ∙ part-put-before k 24 (laid (take n cs)) (omega (arith, long, length-take n cs, f .control-length)) 0 24 (lit≤ tt),
       )
-
-  -- after it, what is pending leaves what the batch leaves uncut
-  pub batch-again : (n : ℕ) → r < 2 ^ 64 → length cs < n
-      → storeAll (storeAll (media a k) (made n (batchStores cs r)))
-      (pendingStores (storeAll (media a k) (made n (batchStores cs r)) .control))
-      ≡ storeAll (media a k) (batchStores cs r)
-  unfolding storeAll
-  batch-again n word h =
-      let now = committed k cs r in
-      let pends = committed-pending k cs r (f .control-length) few ws some word in
-      let queued = committed-queue k cs r (f .control-length) few ws in
-      let counted = committed-count k cs r (f .control-length) few ws in
-      let upTo = cut-committed k cs r (f .control-length) few ws a in
-      let total = length-batch cs r some in
-      let formed : Formed size (media a now) =
-      subst (Formed size) (upTo 0 some) (made-kept (length cs + 1) f (within-batch (size / 72) r ws e few)) in
-      let place : n ≡ length cs + suc (n - length cs - 1) = omega arith in
-      let cut : storeAll (media a k) (made n (batchStores cs r)) ≡ storeAll (media a now) (made (n - length cs - 1) (pendingStores now)) =
-      ap (λ (i : ℕ). storeAll (media a k) (made i (batchStores cs r))) place ∙ upTo (n - length cs - 1) some
-      ∙ ap (λ (xs : List Store). storeAll (media a now) (made (n - length cs - 1) xs)) (sym pends) in
-      ap (λ (m : Media). storeAll m (pendingStores (m .control))) cut
-      ∙ again size (media a now) formed (rw counted few) (rw queued e) (n - length cs - 1)
-      ∙ ap (storeAll (media a now)) (pends ∙ sym (made-all (length cs + 2) (finish cs r) (omega (arith, length-finish cs r))))
-      ∙ sym (upTo (length cs + 2) some)
-      ∙ ap (storeAll (media a k)) (made-all (length cs + suc (length cs + 2)) (batchStores cs r) (omega arith))

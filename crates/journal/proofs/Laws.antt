@@ -5,7 +5,7 @@ use mathlib.Core.List.{List, [], _∷_, _++_, map}
 use Prim.Native.Nat.{ℕ, zero, suc, _+_, _*_, _≤_, _<_}
 use native.Mathlib.Nat.{not-suc-le-zero}
 use native.Mathlib.Omega.{arith}
-use borrow.Author.Tests.{lt-ltb, ltb-true}
+use borrow.Author.Tests.{lt-ltb}
 use lib.ListN.{length, take, length-append, length-map, length-take}
 use lib.Seq.{take-all, take-append-le, take-append-add}
 use Rattle.control.specs.Control.{Cell, queue, count, newRoot}
@@ -48,14 +48,8 @@ pending-none k e = rw e
 
 -- ---- the allowance; a power failure after k of the stores xs leaves `storeAll m (made k xs)`
 
-pub made-within : (a : ℕ) (xs : List Store) → length (made a xs) ≤ a
-made-within a xs = omega (arith, length-take a xs)
-
 pub made-all : (a : ℕ) (xs : List Store) → length xs ≤ a → made a xs ≡ xs
 made-all a xs h = take-all a xs h
-
-pub cut-less : (a : ℕ) (xs : List Store) → isCut a xs ≡ true → a < length xs
-cut-less a xs e = ltb-true a (length xs) e
 
 pub less-cut : (a : ℕ) (xs : List Store) → a < length xs → isCut a xs ≡ true
 less-cut a xs h = lt-ltb a (length xs) h
@@ -106,10 +100,6 @@ pub store-append : (m : Media) (xs ys : List Store) → storeAll m (xs ++ ys) �
 unfolding storeAll
 store-append m [] ys = refl
 store-append m (x ∷ xs) ys = store-append (store m x) xs ys
-
-pub store-one : (m : Media) (x : Store) (xs : List Store) → storeAll m (x ∷ xs) ≡ storeAll (store m x) xs
-unfolding storeAll
-store-one m x xs = refl
 
 pub store-none : (m : Media) → storeAll m [] ≡ m
 unfolding storeAll

@@ -159,8 +159,10 @@ module _ (h : ℕ) (c : List ℕ) (l i : ℕ) (lacks : holds c l i ≡ false) wh
   unfolding digits
   cell-is x j b e = ap (λ (y : ℕ). cellWith y b 0) e
 
-  pub cells-clean : (s : ℕ) → s ≡ slotOf l i → (dirty c s ≡ 1 → ⊥) → length (nodeCells h c l i) ≡ 1
-  cells-clean s e d = ap length (node-clean (λ q. d (ap (dirty c) e ∙ q)))
+  -- it has cells, dirty or not
+  pub cells-some : 1 ≤ length (nodeCells h c l i)
+  unfolding nodeCells
+  cells-some = rw lacks (omega (arith, length-append (evicted h c l (slotOf l i)) (shadowCell h (slotOf l i) (suc i) ∷ [])))
 
   pub cells-dirty : (s : ℕ) → s ≡ slotOf l i → dirty c s ≡ 1 → length (nodeCells h c l i) ≡ 2
   cells-dirty s e d = ap length (node-dirty (ap (dirty c) (sym e) ∙ d))

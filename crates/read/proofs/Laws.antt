@@ -1,6 +1,6 @@
 -- Laws of reading: the batch of a path, side bytes as one word, and how the call ends. Assumes nothing.
 use mathlib.Core.Path.{_≡_, sym, ap, ap₂, _∙_, subst}
-use mathlib.Core.Logic.{_⊎_, inl, inr}
+use mathlib.Core.Logic.{inl, inr}
 use mathlib.Core.List.{List, [], _∷_}
 use denote.Enum.Declared.{tagOf}
 use types.Run.{OneOf}
@@ -21,8 +21,8 @@ use Rattle.answer.proofs.Answer.{the-type}
 use Rattle.control.specs.Control.{Cell, root}
 use Rattle.batch.specs.Batch.{stagedFrom}
 use Rattle.cache.specs.Cache.{cellContent}
-use Rattle.journal.specs.Journal.{Store, Media, media, storeAll, batchStores, Stored}
-use Rattle.journal.proofs.Laws.{length-batch, batch-empty, store-none}
+use Rattle.journal.specs.Journal.{Store, Media, media, storeAll, batchStores}
+use Rattle.journal.proofs.Laws.{batch-empty, store-none}
 use Rattle.journal.proofs.Steps.{Ran}
 use Rattle.calls.specs.Call.{Module, Called, buffers, ended, storing}
 use Rattle.calls.specs.Read.{sideBytes}

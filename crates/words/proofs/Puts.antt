@@ -1,10 +1,10 @@
 -- A part of a list in which bytes were put, before them, of them and after them. Assumes nothing.
 use mathlib.Core.Path.{_≡_, sym, ap, ap₂, _∙_}
-use mathlib.Core.List.{List, _++_, append-nil, append-assoc}
+use mathlib.Core.List.{List, _++_, append-assoc}
 use Prim.Native.Nat.{ℕ, _+_, _-_, _≤_, _<_}
 use native.Mathlib.Nat.{zero-add, add-zero, add-assoc}
 use native.Mathlib.Omega.{arith}
-use lib.ListN.{length, take, drop, getD, length-drop, take-append-drop, drop-of-length-le}
+use lib.ListN.{length, take, drop, getD, length-drop, take-append-drop}
 use lib.Dec.{lit<}
 use lib.Seq.{length-take-le, take-all, take-take, take-at, take-append-le, drop-append-le, drop-append-add, drop-drop, getD-take, getD-drop}
 use Rattle.words.specs.Bytes.{part, put}
@@ -69,12 +69,6 @@ module _ (s : List ℕ) (at : ℕ) (bs : List ℕ) (h : at ≤ length s) where
 
   pub getD-put-in : (i : ℕ) → i < length bs → getD (put s at bs) (at + i) 0 ≡ getD bs i 0
   getD-put-in i p = one (put s at bs) bs (at + i) i (part-put-in i 1 (omega arith))
-
-  pub getD-put-before : (i : ℕ) → i < at → getD (put s at bs) i 0 ≡ getD s i 0
-  getD-put-before i p = one (put s at bs) s i i (part-put-before i 1 (omega arith))
-
-  pub getD-put-after : (i : ℕ) → at + length bs ≤ i → getD (put s at bs) i 0 ≡ getD s i 0
-  getD-put-after i p = one (put s at bs) s i i (part-put-after i 1 p)
 
 -- what is left after the first i, of a put behind them
 pub drop-put-in : (s : List ℕ) (i at : ℕ) (bs : List ℕ) → i + at ≤ length s → drop i (put s (i + at) bs) ≡ put (drop i s) at bs

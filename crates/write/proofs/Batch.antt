@@ -1,45 +1,39 @@
 -- The batch of a write, run under an allowance, and the cache after it. Assumes nothing.
-use mathlib.Core.Path.{_≡_, refl, sym, ap, ap₂, _∙_, subst}
+use mathlib.Core.Path.{_≡_, refl, sym, ap, ap₂, _∙_}
 use mathlib.Core.Bool.{Bool, true, false, cond}
 use mathlib.Core.List.{List, [], _∷_, _++_}
-use Prim.Native.Nat.{ℕ, zero, suc, _+_, _*_, _%_, _≤_, _<_, zero-le}
+use Prim.Native.Nat.{ℕ, zero, suc, _+_, _*_, _%_, _≤_, _<_}
 use native.Mathlib.Nat.{le-refl, zero-add}
 use native.Mathlib.Omega.{arith}
-use lib.Dec.{eqb, lit<}
+use lib.Dec.{eqb}
 use lib.ListN.{length, getD, length-append}
 use Rattle.words.specs.Bytes.{toLe, put}
-use Rattle.words.proofs.Digits.{Below, below-append, below-cons, below-digits}
-use Rattle.memory_map.specs.Map.{pages, lines, cells, pageOf, onPath, cellOf, InMap}
+use Rattle.memory_map.specs.Map.{cells, pageOf, onPath, cellOf, InMap}
 use Rattle.memory_map.specs.Map.Item.{line, node}
-use Rattle.memory_map.proofs.Laws.{cell-within, cell-injective, page-node, path-node, path-top}
-use Rattle.slot_map.specs.Slots.{cacheLength, slotOf}
+use Rattle.memory_map.proofs.Laws.{cell-injective, page-node, path-node, path-top}
+use Rattle.slot_map.specs.Slots.{slotOf}
 use Rattle.counter.specs.Counter.{phaseOf}
-use Rattle.pad.specs.Pad.{pad, xorBytes}
-use Rattle.pad.proofs.Nonce.{below-pad}
-use Rattle.pad.proofs.Xor.{below-xor}
 use Rattle.tag.specs.Tag.{nodeTag}
 use Rattle.answer.specs.declared.Answer.the-variants.{Done, Cut}
 use Rattle.control.specs.Control.{Cell}
 use Rattle.batch.specs.Batch.{staged, stagedFrom}
 use Rattle.batch.proofs.Laws.{staged-one, staged-append}
 use Rattle.cache.specs.Cache.{content, cellContent, withSlot, holds, current}
-use Rattle.journal.specs.Journal.{Store, Media, media, storeAll, batchStores, Stored, made as takes}
+use Rattle.journal.specs.Journal.{Store, Media, media, storeAll, batchStores, made as takes}
 use Rattle.journal.proofs.Each.{Each, none, more, each-append}
-use Rattle.journal.proofs.Laws.{length-batch}
 use Rattle.journal.proofs.Steps.{Ran}
 use Rattle.calls.specs.Path.{nodeCell, renewed, renewPath, renewedRoot}
-use Rattle.calls.specs.Call.{Module, Called, buffers, ended, storing}
-use Rattle.calls.specs.Read.{sideBytes}
+use Rattle.calls.specs.Call.{Called, buffers, ended, storing}
 use Rattle.call_laws.specs.Line.{lineCell, blockCells, lineCells}
 use Rattle.call_laws.specs.Walk.{pathCells, withPath}
-use Rattle.call_laws.proofs.Loads.{Sound, sound-node, cells-sound}
+use Rattle.call_laws.proofs.Loads.{Sound, cells-sound}
 use Rattle.call_laws.proofs.Loading.{path-content, path-length}
 use Rattle.call_laws.proofs.Apart.{Other, node-avoids, stored-length, content-kept}
 use Rattle.call_laws.proofs.Line.{Lent, all-length, all-sound, block-few}
 use Rattle.call_laws.proofs.Staged.{Staged, stored, staged-cut, staged-done}
 use Rattle.path.proofs.Ready.{Ready, fit, few}
 use Rattle.write.specs.Parts.{renewedTag, renewedBy}
-use Rattle.write.proofs.Held.{path-owners, path-over, renewed-over}
+use Rattle.write.proofs.Held.{path-over, renewed-over}
 
 pub cells-length : (h : ℕ) (keys c : List ℕ) (n : ℕ) (text : List ℕ) (ma mi : ℕ) (b : List ℕ)
     → length (lineCells h keys c n text ma mi b) ≡ length (pathCells h c (pageOf n) (suc h)) + length (blockCells h (pageOf n) mi b) + 1

@@ -3,7 +3,7 @@
 use mathlib.Core.Path.{_≡_, refl, sym, ap, ap₂, _∙_}
 use mathlib.Core.Bool.{Bool, true, false, cond}
 use mathlib.Core.List.{List, _∷_, _++_}
-use Prim.Native.Nat.{ℕ, zero, suc, _+_, _*_, _%_, _^_, _≤_, _<_, zero-le}
+use Prim.Native.Nat.{ℕ, zero, suc, _*_, _%_, _≤_, _<_, zero-le}
 use native.Mathlib.Nat.{le-refl}
 use native.Mathlib.Decide.{ℕ-discrete}
 use native.Mathlib.Omega.{arith}
@@ -11,7 +11,7 @@ use lib.ListN.{length, getD, length-append}
 use Rattle.words.specs.Bytes.{toLe, put}
 use Rattle.words.proofs.Digits.{length-digits}
 use Rattle.words.proofs.Puts.{put-put}
-use Rattle.memory_map.specs.Map.{pages, slots, cellOf, onPath, arrayLength}
+use Rattle.memory_map.specs.Map.{pages, cellOf, onPath, arrayLength}
 use Rattle.memory_map.specs.Map.Item.{node}
 use Rattle.memory_map.proofs.Laws.{path-node, path-within, path-bottom, nodes-small}
 use Rattle.slot_map.specs.Slots.{cacheLength, slotOf, levelOf}

@@ -1,7 +1,7 @@
 -- The path renewed in the cache, slot by slot. Assumes nothing.
-use mathlib.Core.Path.{_≡_, refl, sym, ap, ap₂, _∙_, subst}
+use mathlib.Core.Path.{_≡_, sym, ap, ap₂, _∙_}
 use mathlib.Core.List.{List, [], _∷_}
-use Prim.Native.Nat.{ℕ, zero, suc, _+_, _*_, _%_, _^_, _≤_, _<_, zero-le}
+use Prim.Native.Nat.{ℕ, zero, suc, _+_, _*_, _%_, _≤_, _<_, zero-le}
 use native.Mathlib.Numerals.{add-one}
 use native.Mathlib.Omega.{arith}
 use lib.ListN.{length, getD, set, length-set}
@@ -10,8 +10,7 @@ use Rattle.words.specs.Bytes.{toLe, part, put}
 use Rattle.words.proofs.Digits.{Below, below-take, below-drop, length-digits, digits-exact}
 use Rattle.words.proofs.Parts.{length-part, length-put, put-part, put-one}
 use Rattle.words.proofs.Puts.{part-put-after, put-within}
-use Rattle.memory_map.specs.Map.{pages, onPath, slots}
-use Rattle.memory_map.proofs.Laws.{path-bottom}
+use Rattle.memory_map.specs.Map.{onPath}
 use Rattle.slot_map.specs.Slots.{cacheLength, slotOf, levelOf}
 use Rattle.slot_map.proofs.Laws.{slot-within, level-slot}
 use Rattle.cache.specs.Cache.{owner, content, withSlot}

@@ -267,7 +267,8 @@ fn store_line(
         control,
         allowance,
     );
-    let stores = journal::run(array, control, n, tags[h], allowance);
+    let root = tags[h];
+    let stores = journal::run(array, control, n, root, allowance);
     if stores < 2 * n as u64 + 3 {
         return Answer::Cut { stores };
     }

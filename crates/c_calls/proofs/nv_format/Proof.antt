@@ -1,5 +1,4 @@
 -- `c_calls::nv_format` meets its contract. Assumes nothing.
-use mathlib.Core.Path.{_≡_, ap}
 use borrow.Author.Needs.{needs}
 use Rattle.calls.specs.Call.{Module, Called, buffers}
 use Rattle.calls.specs.Format.{format}

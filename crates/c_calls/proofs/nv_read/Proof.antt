@@ -1,5 +1,5 @@
 -- `c_calls::nv_read` meets its contract. Assumes nothing.
-use mathlib.Core.Path.{_≡_, ap}
+use mathlib.Core.Path.{ap}
 use borrow.Author.Needs.{needs}
 use Rattle.calls.specs.Call.{Module, buffers}
 use Rattle.calls.specs.Read.{Reading, read}

@@ -1,12 +1,11 @@
 -- `journal::run` meets its contract. Assumes nothing.
 use mathlib.Core.Path.{ap, _∙_}
-use mathlib.Core.List.{List}
 use Prim.Native.Nat.{_/_}
 use native.Mathlib.Omega.{arith}
 use lib.ListN.{length}
-use Rattle.control.specs.Control.{Cell, inMap}
+use Rattle.control.specs.Control.{inMap}
 use Rattle.journal.specs.Journal.{media}
-use Rattle.journal.proofs.Steps.{Ran, Committed, run-part, run-commit}
+use Rattle.journal.proofs.Steps.{Committed, run-part, run-commit}
 use borrow.Author.Needs.{needs}
 use Rattle.journal.proofs.run.Statement.{statement}
 use Rattle.journal.proofs.run.Tie as tie

@@ -1,11 +1,9 @@
 -- `node::current` meets its contract. Assumes nothing.
-use mathlib.Core.Path.{_≡_, sym, ap, _∙_}
-use Prim.Native.Nat.{_+_, _*_, _≤_}
-use lib.ListN.{length}
-use borrow.Author.Needs.{needs}
-use Rattle.memory_map.proofs.Laws.{in-map-node}
+use mathlib.Core.Path.{sym, ap, _∙_}
 use Rattle.cache.specs.Cache.{content, cellContent}
-use Rattle.cache.proofs.Laws.{current-cached, current-missing}
+use Rattle.memory_map.proofs.Laws.{in-map-node}
+use Rattle.slot_map.proofs.Laws.{slot-within}
+use Rattle.cache.proofs.Laws.{current-cached, current-missing, slot-room}
 use Rattle.node.proofs.Laws.{slotted, cell-room}
 use Rattle.node.proofs.current.Statement.{statement}
 use Rattle.node.proofs.current.Tie as tie
@@ -25,8 +23,8 @@ slot-of-requires c κs =
 in-slot-requires : tie.Need-in-slot-requires
 in-slot-requires c κs =
     let start = c .before .before .before .before .before in
-    rw (c .slot-of .ensures) (slotted _ (start .args .cache .now) (start .args .l) (start .args .i) (start .pre .0 .flat)
-    (start .pre .0 .cache) (start .pre .1) .slot)
+    let level = in-map-node _ (start .args .l) (start .args .i) (start .pre .1) .0 in
+    rw (c .slot-of .ensures) (slot-room _ _ (start .args .cache .now) (start .pre .0 .cache) (slot-within _ _ _ level))
 
 returns : tie.Need-returns
 returns c =

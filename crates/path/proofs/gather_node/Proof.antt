@@ -13,7 +13,7 @@ use Rattle.cache.specs.Cache.{owner, dirty}
 use Rattle.cache.proofs.Laws.{formed-facts, dirty-owner, content-length}
 use Rattle.node.proofs.Laws.{Slotted, slotted}
 use Rattle.call_laws.specs.Walk.{nodeCells}
-use Rattle.path.proofs.Laws.{gathered-clean, gathered-dirty, cells-clean, cells-dirty}
+use Rattle.path.proofs.Laws.{gathered-clean, gathered-dirty, cells-some, cells-dirty}
 use Rattle.path.proofs.gather_node.Statement.{statement}
 use Rattle.path.proofs.gather_node.Tie as tie
 
@@ -57,8 +57,7 @@ put-shadow-requires c κs =
       omega (
         arith,
         s .pre .1 .1 .1,
-        cells-clean (s .args .h) (s .args .cache .now) (s .args .l) (s .args .i) (s .pre .1 .0) (at .slot-of .result) (at .slot-of .ensures)
-            (λ e. c .before .before .if1 .taken (c .before .before .before .dirty .ensures ∙ e)),
+        cells-some (s .args .h) (s .args .cache .now) (s .args .l) (s .args .i) (s .pre .1 .0),
       ),
     )
 

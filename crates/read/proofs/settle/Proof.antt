@@ -3,7 +3,6 @@ use mathlib.Core.Path.{_≡_, _∙_}
 use Prim.Native.Nat.{suc, _≤_}
 use native.Mathlib.Omega.{arith}
 use borrow.Author.Needs.{needs}
-use lib.ListN.{length}
 use Rattle.journal.specs.Journal.{media}
 use Rattle.journal.proofs.Steps.{Ran}
 use Rattle.call_laws.specs.Walk.{missing, pathCells}

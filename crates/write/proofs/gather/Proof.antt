@@ -1,10 +1,10 @@
 -- `write::gather` meets its contract. Assumes nothing.
-use mathlib.Core.Path.{_≡_, refl, sym, ap, _∙_, subst}
+use mathlib.Core.Path.{refl, sym, ap, _∙_, subst}
 use Prim.Native.Nat.{ℕ, suc, _+_, _^_, _≤_, _<_}
 use native.Mathlib.Omega.{arith}
 use borrow.Author.Needs.{needs}
 use lib.ListN.{length}
-use Rattle.memory_map.specs.Map.{pages, pageOf}
+use Rattle.memory_map.specs.Map.{pages}
 use Rattle.memory_map.proofs.Laws.{page-inside, lines-small}
 use Rattle.call_laws.specs.Walk.{missing, pathCells}
 use Rattle.call_laws.specs.Line.{blockCells}

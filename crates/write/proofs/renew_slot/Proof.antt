@@ -30,12 +30,12 @@ add-store64-2 : tie.Need-add-store64-2
 add-store64-2 c = search needs
 
 store64-requires : tie.Need-store64-requires
-store64-requires c κs = let s = c .before .before in rw (length-set (s .args .cache .now) (73 * s .args .s + 8) 1) (omega arith)
+store64-requires c κs = let s = c .before .before in rw (length-set (s .args .cache .now) (73 * s .args .s + 8) _) (omega arith)
 
 same-length : tie.Need-same-length
 same-length c =
     let s = c .before .before .before .before .before in
-    c .before .before .store64 .kept .0 ∙ length-set (s .args .cache .now) (73 * s .args .s + 8) 1
+    c .before .before .store64 .kept .0 ∙ length-set (s .args .cache .now) (73 * s .args .s + 8) _
 
 returns : tie.Need-returns
 returns c =

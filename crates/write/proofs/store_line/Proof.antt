@@ -99,11 +99,11 @@ staged c =
     let a = start at .args in
     staging (ready at) (a .keys .now) (lent at) (a .major) (a .minor) (c .gather .ensures .0) (c .gather .ensures .1)
 
-mul-run : tie.Need-mul-run
-mul-run c = search needs
+mul-root : tie.Need-mul-root
+mul-root c = search needs
 
-array-read-run : tie.Need-array-read-run
-array-read-run c = search needs
+array-read-root : tie.Need-array-read-root
+array-read-root c = search needs
 
 run-requires : tie.Need-run-requires
 run-requires c κs =
@@ -223,8 +223,8 @@ store-line-spec =
     page-of-requires
     path-tags-requires
     gather-requires
-    mul-run
-    array-read-run
+    mul-root
+    array-read-root
     run-requires
     mul-if1
     add-if1
