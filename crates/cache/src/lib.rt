@@ -184,5 +184,5 @@ pub fn shadow_owners(h: usize, array: &[u8]) -> [u64; 10]
     requires { ⌜ (1 ≤ h) × ((h ≤ 3) × (length (now array) ≡ arrayLength h)) ⌝ }
     ensures { λ r. ⌜ take (slotsOf h) r ≡ shadowOwners h (now (array .entry)) ⌝ }
 {
-    owners_at(array, 71 * memory_map::shadow_cell(h, 0), 72, slots(h))
+    owners_at(array, 72 * memory_map::shadow_cell(h, 0), 72, slots(h))
 }
