@@ -22,7 +22,7 @@ pub fn put_cell(
     if (n as u64) < allowance {
         let at = control::PLACES + 80 * n;
         store64(control, at, number as u64);
-        words::copy(control, at + 8, content, 0, 64);
+        copying::copy(control, at + 8, content, 0, 64);
         store64(control, at + 72, side);
     }
 }
@@ -36,6 +36,6 @@ pub fn put_shadow(control: &mut [u8], n: usize, allowance: u64, number: usize, o
         let at = control::PLACES + 80 * n;
         store64(control, at, number as u64);
         store64(control, at + 8, owner);
-        words::zero(control, at + 16, 64);
+        copying::zero(control, at + 16, 64);
     }
 }

@@ -104,7 +104,7 @@ fn settle(cache: &mut [u8], answer: Answer)
 {
     if let Answer::Cut { stores: _ } = answer {
         let n = cache.len();
-        words::zero(cache, 0, n);
+        copying::zero(cache, 0, n);
     }
 }
 

@@ -19,7 +19,7 @@ pub extern "C" fn nv_chacha20_block(key: &[u8], counter: u32, nonce: &[u8], out:
         return 1;
     }
     let block = chacha20::block(key, counter, nonce);
-    words::copy(out, 0, &block, 0, 64);
+    copying::copy(out, 0, &block, 0, 64);
     0
 }
 

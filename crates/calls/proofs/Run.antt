@@ -22,7 +22,7 @@ use Rattle.pad.specs.Pad.{pad, xorBytes}
 use Rattle.siphash.specs.SipHash.{initial, lastWord, messageWords, sipRound, compress, compressAll, finalize, sipHash}
 use Rattle.tag.specs.Tag.{nodeInput, nodeTag, dataInput, dataTag}
 use Rattle.words.specs.Bytes.{number, digits, wordsOf, bytesOf}
-use Rattle.words.specs.Rotate.{rotl}
+use Rattle.rotation.specs.Rotate.{rotl}
 
 unfoldable pub run : ℕ
 unfolding codeOf storesOf firstOf secondOf owner dirty content withSlot cellContent shadowOwner from stray anyOwner missingTop orElse

@@ -5,7 +5,7 @@ use mathlib.Core.List.{List, [], _∷_, _++_}
 use lib.ListN.{getD, set}
 use lib.Bits.{bitXor}
 use Rattle.words.specs.Bytes.{wordsOf, bytesOf}
-use Rattle.words.specs.Rotate.{addW, rotl}
+use Rattle.rotation.specs.Rotate.{addW, rotl}
 
 -- 2.1: the quarter round on a, b, c and d
 unfoldable pub quarter : ℕ → ℕ → ℕ → ℕ → List ℕ

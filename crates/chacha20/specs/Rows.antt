@@ -4,7 +4,7 @@ use Prim.Native.Nat.{ℕ, _+_, _%_}
 use mathlib.Core.List.{List, [], _∷_, _++_}
 use lib.ListN.{getD}
 use lib.Bits.{bitXor}
-use Rattle.words.specs.Rotate.{addW, rotl}
+use Rattle.rotation.specs.Rotate.{addW, rotl}
 use Rattle.chacha20.specs.ChaCha20.{quarter}
 
 -- the row of a word for each of the four columns

@@ -6,9 +6,9 @@ ghost use lib.ListN.{length, getD};
 ghost use Rattle.words.specs.Bytes.{wordsOf, bytesOf, part, put};
 ghost use Rattle.chacha20.specs.ChaCha20.{constants, rounds, serialised, block as chachaBlock, diagonalRound, columnRound};
 ghost use Rattle.chacha20.specs.Rows.{row, flat, sumRow, mixRow, quarterRows, turned};
+use rotation::rotate32;
 use std::num::wrapping_add_u32;
 use words::load32;
-use words::rotate32;
 use words::store32;
 
 fn add_rows(a: [u32; 4], b: [u32; 4]) -> [u32; 4]

@@ -37,7 +37,7 @@ pub fn with_minor(block: &[u8], j: usize, v: u64, out: &mut [u8])
     let bit = 8 + j % 8 * 7;
     let w = load64(block, at);
     let old = (w >> bit) % 128;
-    words::copy(out, 0, block, 0, 64);
+    copying::copy(out, 0, block, 0, 64);
     store64(out, at, w - (old << bit) + (v << bit));
 }
 

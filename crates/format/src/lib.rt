@@ -88,7 +88,7 @@ fn put_control(h: usize, root: u64, control: &mut [u8])
     requires { ⌜ (h ≤ 3) × (length (now control) ≡ controlLength) ⌝ }
     ensures { λ _. ⌜ now (control .exit) ≡ freshControl h root ⌝ }
 {
-    words::zero(control, 0, control::LENGTH);
+    copying::zero(control, 0, control::LENGTH);
     words::store32(control, 0, words::load32(b"PIGK", 0));
     control[4] = 1;
     control[control::DEPTH] = h as u8;
@@ -118,12 +118,12 @@ pub fn format(
     }
     let h = depth as usize;
     let size = array.len();
-    words::zero(array, 0, size);
+    copying::zero(array, 0, size);
     put_tree(h, keys, array);
     let top = node::in_cell(array, memory_map::node_cell(h, h, 0));
     let root = tag::node_tag(keys, top, h as u64, 0);
     put_control(h, root, control);
     let slots = cache.len();
-    words::zero(cache, 0, slots);
+    copying::zero(cache, 0, slots);
     Answer::Done { stores: 0, sum: 0 }
 }

@@ -8,7 +8,7 @@ ghost use Rattle.words.specs.Bytes.{toLe, put};
 ghost use Rattle.control.specs.Control.{controlLength, placeAt, places, queue, inMap, count, countAt};
 ghost use Rattle.journal.specs.Journal.{media, storeAll, made, committing, pendingStores, Stored};
 ghost use Rattle.journal.specs.Journal.Store.{cell};
-use words::copy;
+use copying::copy;
 use words::store64;
 
 // The least of a count and an allowance.

@@ -59,5 +59,5 @@ pub fn put_slot(cache: &mut [u8], s: usize, owner: u64, dirty: u8, content: &[u8
     let at = 73 * s;
     words::store64(cache, at, owner);
     cache[at + 8] = dirty;
-    words::copy(cache, at + 9, content, 0, 64);
+    copying::copy(cache, at + 9, content, 0, 64);
 }

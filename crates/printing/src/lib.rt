@@ -30,7 +30,7 @@ fn append(buf: &mut [u8], at: usize, text: &[u8]) -> usize
     ensures { λ r. ⌜ Appended (now (buf .entry)) (now (buf .exit)) at r (now (text .entry)) ⌝ }
 {
     let n = text.len();
-    words::copy(buf, at, text, 0, n);
+    copying::copy(buf, at, text, 0, n);
     at + n
 }
 
@@ -43,7 +43,7 @@ fn append_number(buf: &mut [u8], at: usize, text: &[u8], n: u64) -> usize
     let middle = append(buf, at, text);
     let mut digits = [0u8; 20];
     let i = spell(n, &mut digits);
-    words::copy(buf, middle, &digits, i, 20 - i);
+    copying::copy(buf, middle, &digits, i, 20 - i);
     middle + (20 - i)
 }
 

@@ -75,7 +75,7 @@ fn give(
         (xorBytes (cellContent (now (array .entry)) line) (padOf (now (keys .entry)) line major minor)) ⌝ }
 {
     if minor == 0 {
-        words::zero(out, 0, 64);
+        copying::zero(out, 0, 64);
         return Answer::Blank { stores };
     }
     pad::apply(

@@ -196,7 +196,7 @@ fn rebuild(
         };
     }
     let n = cache.len();
-    words::copy(cache, 0, image, 0, n);
+    copying::copy(cache, 0, image, 0, n);
     Answer::Done { stores, sum }
 }
 

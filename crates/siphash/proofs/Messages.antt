@@ -10,7 +10,7 @@ use lib.Dec.{lit<}
 use lib.ListN.{length, getD, take, drop, length-append, length-drop}
 use lib.Seq.{take-suc, drop-at, drop-length}
 use Rattle.words.specs.Bytes.{number, fromLe, part, wordsOf, bytesOf}
-use Rattle.words.specs.Rotate.{addW, rotl}
+use Rattle.rotation.specs.Rotate.{addW, rotl}
 use Rattle.words.proofs.Digits.{Below, below-drop, number-lt-pow, number-from}
 use Rattle.words.proofs.Words.{words-add, words-front, words-bytes, length-bytes}
 use Rattle.siphash.specs.SipHash.{initial, lastWord, messageWords, sipRound, compress, compressAll, finalize, sipHash}

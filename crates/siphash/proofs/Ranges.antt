@@ -7,9 +7,9 @@ use lib.Dec.{lit<, lit≤}
 use lib.ListN.{length, getD}
 use lib.Bits.{xor-lt}
 use lib.Pow.{pow-pos}
-use Rattle.words.specs.Rotate.{addW}
+use Rattle.rotation.specs.Rotate.{addW}
 use Rattle.words.proofs.Digits.{Below, below-head, below-tail, below-nil, below-cons, below-append}
-use Rattle.words.proofs.Rotation.{rotl-lt}
+use Rattle.rotation.proofs.Rotation.{rotl-lt}
 use Rattle.words.proofs.Words.{below-words, part-lt}
 use Rattle.siphash.proofs.Messages.{left-lt}
 use Rattle.siphash.specs.SipHash.{initial, lastWord, messageWords, sipRound, compress, compressAll, finalize, sipHash}

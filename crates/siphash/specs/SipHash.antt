@@ -5,7 +5,7 @@ use mathlib.Core.List.{List, [], _∷_, _++_}
 use lib.ListN.{length, getD, take, drop}
 use lib.Bits.{bitXor}
 use Rattle.words.specs.Bytes.{fromLe, wordsOf}
-use Rattle.words.specs.Rotate.{addW, rotl}
+use Rattle.rotation.specs.Rotate.{addW, rotl}
 
 -- initialization: the state of a key's two words
 unfoldable pub initial : ℕ → ℕ → List ℕ

@@ -12,9 +12,9 @@ ghost use Rattle.siphash.specs.SipHash.{
   compress as compressed,
   finalize as finalized,
 };
+use rotation::rotate64;
 use std::num::wrapping_add_u64;
 use words::load64;
-use words::rotate64;
 
 fn sip_round(v: [u64; 4]) -> [u64; 4]
     ensures { λ r. ⌜ r ≡ sipRound v ⌝ }

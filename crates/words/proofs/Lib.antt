@@ -2,6 +2,5 @@ pub mod Digits
 pub mod Order
 pub mod Parts
 pub mod Puts
-pub mod Rotation
 pub mod Words
 pub mod Zeros

@@ -1,13 +1,13 @@
--- `words::copy` meets its contract. Assumes nothing.
+-- `copying::copy` meets its contract. Assumes nothing.
 use mathlib.Core.Path.{_≡_, ap, _∙_}
 use mathlib.Core.List.{List}
 use Prim.Native.Nat.{ℕ, _+_, _*_, _-_, _/_}
 use borrow.Author.Needs.{needs}
 use native.Mathlib.Omega.{arith}
 use Rattle.words.specs.Bytes.{part, put}
 use Rattle.words.proofs.Parts.{copy-more}
-use Rattle.words.proofs.copy.Statement.{statement}
-use Rattle.words.proofs.copy.Tie as tie
+use Rattle.copying.proofs.copy.Statement.{statement}
+use Rattle.copying.proofs.copy.Tie as tie
 
 mul-whole : tie.Need-mul-whole
 mul-whole c = search needs

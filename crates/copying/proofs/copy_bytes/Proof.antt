@@ -1,13 +1,13 @@
--- `words::copy_bytes` meets its contract. Assumes nothing.
+-- `copying::copy_bytes` meets its contract. Assumes nothing.
 use mathlib.Core.Path.{_≡_, refl, sym, ap, _∙_}
 use mathlib.Core.List.{List}
 use Prim.Native.Nat.{ℕ, _+_, _-_, _≤_, zero-le}
 use native.Mathlib.Omega.{arith}
 use lib.ListN.{length, getD, set, length-set}
 use Rattle.words.specs.Bytes.{part, put}
 use Rattle.words.proofs.Parts.{put-nil, copy-next}
-use Rattle.words.proofs.copy_bytes.Statement.{statement}
-use Rattle.words.proofs.copy_bytes.Tie as tie
+use Rattle.copying.proofs.copy_bytes.Statement.{statement}
+use Rattle.copying.proofs.copy_bytes.Tie as tie
 
 abbrev Inv-loop : tie.InvT-loop
 Inv-loop dst₀ to src from n i₀ dst i = (i ≤ n) × ((dst ≡ put dst₀ to (part src from i)) × (length dst ≡ length dst₀))

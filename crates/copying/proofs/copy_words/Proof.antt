@@ -1,13 +1,13 @@
--- `words::copy_words` meets its contract. Assumes nothing.
+-- `copying::copy_words` meets its contract. Assumes nothing.
 use mathlib.Core.Path.{_≡_, refl, sym, ap, _∙_}
 use mathlib.Core.List.{List}
 use Prim.Native.Nat.{ℕ, _+_, _*_, _-_, _≤_, zero-le}
 use native.Mathlib.Omega.{arith}
 use lib.ListN.{length}
 use Rattle.words.specs.Bytes.{fromLe, toLe, part, put}
 use Rattle.words.proofs.Parts.{put-nil, copy-word}
-use Rattle.words.proofs.copy_words.Statement.{statement}
-use Rattle.words.proofs.copy_words.Tie as tie
+use Rattle.copying.proofs.copy_words.Statement.{statement}
+use Rattle.copying.proofs.copy_words.Tie as tie
 
 abbrev Inv-loop : tie.InvT-loop
 Inv-loop dst₀ to src from n i₀ dst i = (i ≤ n) × ((dst ≡ put dst₀ to (part src from (8 * i))) × (length dst ≡ length dst₀))

@@ -5,7 +5,7 @@ use native.Mathlib.Nat.{mul-div-cancel, mul-mod-left, add-zero, add-comm, sub-ad
 use lib.Arith.{mod-mul}
 use lib.Pow.{pow-pos, pow-add, shr-lt, shr-le}
 use lib.Bits.{bitOr, or-shifted, or-lt}
-use Rattle.words.specs.Rotate.{rotl}
+use Rattle.rotation.specs.Rotate.{rotl}
 
 -- x * 2^n cut at 2^(k + n)
 shifted : (k n x : ℕ) → (x * 2 ^ n) % 2 ^ (k + n) ≡ (x % 2 ^ k) * 2 ^ n

@@ -1,14 +1,14 @@
--- `words::zero` meets its contract. Assumes nothing.
+-- `copying::zero` meets its contract. Assumes nothing.
 use mathlib.Core.Path.{_≡_, refl, sym, ap, _∙_}
 use mathlib.Core.List.{List}
 use Prim.Native.Nat.{ℕ, _+_, _-_, _≤_, zero-le}
 use native.Mathlib.Omega.{arith}
 use lib.ListN.{length, set, replicate, length-set}
 use Rattle.words.specs.Bytes.{put}
 use Rattle.words.proofs.Parts.{put-nil}
 use Rattle.words.proofs.Zeros.{zero-next}
-use Rattle.words.proofs.zero.Statement.{statement}
-use Rattle.words.proofs.zero.Tie as tie
+use Rattle.copying.proofs.zero.Statement.{statement}
+use Rattle.copying.proofs.zero.Tie as tie
 
 abbrev Inv-loop : tie.InvT-loop
 Inv-loop s₀ at n i₀ s i = (i ≤ n) × ((s ≡ put s₀ at (replicate i 0)) × (length s ≡ length s₀))
