@@ -10,7 +10,7 @@ use lib.Dec.{lit<}
 use lib.ListN.{length, drop}
 use Rattle.words.specs.Bytes.{number, digits, fromLe, toLe, part, put}
 use Rattle.words.proofs.Digits.{Below, below-nil, below-cons, below-head, below-tail, below-append, below-take, below-drop, below-digits}
-use Rattle.words.proofs.Digits.{number-two, digits-exact}
+use Rattle.words.proofs.Digits.{length-digits, number-exact, digits-exact}
 use Rattle.words.proofs.Parts.{length-part, part-add, put-append}
 use Rattle.pad.specs.Pad.{xorBytes}
 
@@ -85,14 +85,13 @@ xor-number n t p lt lp ht hp =
     ap (toLe n) (sym (number-xor t p (lt ∙ sym lp) ht hp))
     ∙ digits-exact 256 n (xorBytes t p) (length-xor t p (omega arith) ∙ lt) (below-xor t p ht hp)
 
--- of two numbers of 4 bytes, as one of 8
-pub xor-two : (t : List ℕ) (at : ℕ) {x a b : ℕ} → at + 8 ≤ length t → Below 256 t → a < 2 ^ 32 → b < 2 ^ 32
-    → x ≡ fromLe (part t at 8) → toLe 8 (bitXor x (a + b * 0x1_0000_0000)) ≡ xorBytes (part t at 8) (toLe 4 a ++ toLe 4 b)
-unfolding digits
-xor-two t at {x} {a} {b} h ht ha hb e =
-    ap₂ (λ (y z : ℕ). toLe 8 (bitXor y z)) e (sym (number-two 256 4 4 a b (lit< tt) ha hb))
-    ∙ xor-number 8 (part t at 8) (toLe 4 a ++ toLe 4 b) (length-part t at 8 h) refl (below-take 8 (drop at t) (below-drop at t ht))
-    (below-append (toLe 4 a) (toLe 4 b) (below-digits 256 4 a (lit< tt)) (below-digits 256 4 b (lit< tt)))
+-- of n bytes of a text and a number, in n bytes
+pub xor-word : (n : ℕ) (t : List ℕ) (at w : ℕ) {x : ℕ} → at + n ≤ length t → Below 256 t → w < 256 ^ n
+    → x ≡ fromLe (part t at n) → toLe n (bitXor x w) ≡ xorBytes (part t at n) (toLe n w)
+xor-word n t at w h ht hw e =
+    ap₂ (λ (y z : ℕ). toLe n (bitXor y z)) e (sym (number-exact 256 n w (lit< tt) hw))
+    ∙ xor-number n (part t at n) (toLe n w) (length-part t at n h) (length-digits 256 n w)
+    (below-take n (drop at t) (below-drop at t ht)) (below-digits 256 n w (lit< tt))
 
 xor-append : (a b p q : List ℕ) → length a ≡ length p → xorBytes (a ++ b) (p ++ q) ≡ xorBytes a p ++ xorBytes b q
 unfolding xorBytes

@@ -2,29 +2,31 @@
 ghost use mathlib.Core.Path.{_≡_};
 ghost use Prim.Native.Nat.{_+_, _≤_};
 ghost use lib.ListN.{length, getD};
-ghost use Rattle.words.specs.Bytes.{bytesOf, part, put};
+ghost use Rattle.words.specs.Bytes.{toLe, bytesOf, part, put};
 ghost use Rattle.chacha20.specs.Rows.{row};
 ghost use Rattle.pad.specs.Pad.{xorBytes, pad as padOf};
 use chacha20::key_rows;
-use words::load64;
-use words::store64;
+use words::load32;
+use words::store32;
 
-// Writes 16 bytes of a text joined with a row of the pad, a word at a time.
+// Writes 4 bytes of a text joined with a word of the pad.
+fn join_word(text: &[u8], at: usize, w: u32, out: &mut [u8])
+    requires { ⌜ (at + 4 ≤ length (now text)) × (at + 4 ≤ length (now out)) ⌝ }
+    ensures { λ _. ⌜ now (out .exit) ≡ put (now (out .entry)) at (xorBytes (part (now (text .entry)) at 4) (toLe 4 w)) ⌝ }
+{
+    store32(out, at, load32(text, at) ^ w);
+}
+
+// Writes 16 bytes of a text joined with a row of the pad.
 fn join_row(text: &[u8], at: usize, r: [u32; 4], out: &mut [u8])
     requires { ⌜ (at + 16 ≤ length (now text)) × (at + 16 ≤ length (now out)) ⌝ }
     ensures { λ _. ⌜ now (out .exit) ≡ put (now (out .entry)) at
         (xorBytes (part (now (text .entry)) at 16) (bytesOf 4 (row (λ j. getD r j 0)))) ⌝ }
 {
-    store64(
-        out,
-        at,
-        load64(text, at) ^ (r[0] as u64 + r[1] as u64 * 0x1_0000_0000),
-    );
-    store64(
-        out,
-        at + 8,
-        load64(text, at + 8) ^ (r[2] as u64 + r[3] as u64 * 0x1_0000_0000),
-    );
+    join_word(text, at, r[0], out);
+    join_word(text, at + 4, r[1], out);
+    join_word(text, at + 8, r[2], out);
+    join_word(text, at + 12, r[3], out);
 }
 
 // Writes the 64 bytes of a text joined with the pad of a line at a counter, under keys of 48 bytes. Done twice it gives the text back.

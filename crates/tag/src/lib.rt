@@ -1,8 +1,10 @@
 // The tags of nodes and of data cells.
 ghost use mathlib.Core.Path.{_≡_};
-ghost use mathlib.Core.List.{_++_};
-ghost use Prim.Native.Nat.{_*_, _<_, _≤_};
-ghost use lib.ListN.{length, take};
+ghost use mathlib.Core.Bool.{cond};
+ghost use mathlib.Core.List.{[], _∷_, _++_};
+ghost use Prim.Native.Nat.{_*_, _<_};
+ghost use lib.Dec.{eqb};
+ghost use lib.ListN.{length};
 ghost use Rattle.words.specs.Bytes.{fromLe, toLe, part, put, wordsOf};
 ghost use Rattle.siphash.specs.SipHash.{initial, compressAll, finalize as finalized};
 ghost use Rattle.tag.specs.Tag.{nodeTag, dataTag};
@@ -12,21 +14,19 @@ use siphash::compress;
 use siphash::finalize;
 use words::load64;
 
-// The hash of a content, 64 bytes, and of the first n of its last words, under keys of 48 bytes.
-fn digest(keys: &[u8], content: &[u8], last: [u64; 4], n: usize) -> u64
-    requires { ⌜ (length (now keys) ≡ 48) × ((length (now content) ≡ 64) × (n ≤ 4)) ⌝ }
+// The hash of a content, 64 bytes, and of three words, or of four where the last is not 0, under keys of 48 bytes.
+fn digest(keys: &[u8], content: &[u8], a: u64, b: u64, c: u64, d: u64) -> u64
+    requires { ⌜ (length (now keys) ≡ 48) × (length (now content) ≡ 64) ⌝ }
     ensures { λ r. ⌜ r ≡ finalized (compressAll
         (initial (fromLe (part (now (keys .entry)) 32 8)) (fromLe (part (now (keys .entry)) 40 8)))
-        (wordsOf 8 8 (now (content .entry)) ++ take n last)) ⌝ }
+        (wordsOf 8 8 (now (content .entry)) ++ (a ∷ b ∷ c ∷ cond (eqb d 0) [] (d ∷ [])))) ⌝ }
 {
-    let mut v = absorb(load64(keys, 32), load64(keys, 40), content, 8);
-    let mut i = 0;
-    while i < n {
-        let next = compress(v, last[i]);
-        v = next;
-        i += 1;
+    let v = absorb(load64(keys, 32), load64(keys, 40), content, 8);
+    let w = compress(compress(compress(v, a), b), c);
+    if d == 0 {
+        return finalize(w);
     }
-    finalize(v)
+    finalize(compress(w, d))
 }
 
 // The tag of a node's content, 64 bytes, under keys of 48 bytes.
@@ -34,7 +34,7 @@ pub fn node_tag(keys: &[u8], content: &[u8], level: u64, index: u64) -> u64
     requires { ⌜ (length (now keys) ≡ 48) × (length (now content) ≡ 64) ⌝ }
     ensures { λ r. ⌜ r ≡ nodeTag (now (keys .entry)) (now (content .entry)) level index ⌝ }
 {
-    digest(keys, content, [level, index, 0x5000_0000_0000_0000, 0], 3)
+    digest(keys, content, level, index, 0x5000_0000_0000_0000, 0)
 }
 
 // The tag of a node's content with x in place of its word j.
@@ -52,11 +52,5 @@ pub fn data_tag(keys: &[u8], content: &[u8], line: u64, major: u64, minor: u64) 
     requires { ⌜ (length (now keys) ≡ 48) × (length (now content) ≡ 64) ⌝ }
     ensures { λ r. ⌜ r ≡ dataTag (now (keys .entry)) (now (content .entry)) line major minor ⌝ }
 {
-    digest(
-        keys,
-        content,
-        [line, major, minor, 0x5800_0000_0000_0000],
-        4,
-    )
-        % 0x100_0000_0000_0000
+    digest(keys, content, line, major, minor, 0x5800_0000_0000_0000) % 0x100_0000_0000_0000
 }

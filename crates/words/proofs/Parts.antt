@@ -186,11 +186,6 @@ copy-next d to s from n hd hs =
     ∙ ap (put (put d to (part s from n)) (to + n)) (sym (part-suc s (from + n) 0 hs))
     ∙ copy-more d to s from n 1 (omega arith) (omega arith)
 
--- a word more
-pub copy-word : (d : List ℕ) (to : ℕ) (s : List ℕ) (from n : ℕ) → to + (n + 8) ≤ length d → from + (n + 8) ≤ length s → Below 256 s
-    → put (put d to (part s from n)) (to + n) (toLe 8 (fromLe (part s (from + n) 8))) ≡ put d to (part s from (n + 8))
-copy-word d to s from n hd hs b =
-    ap (put (put d to (part s from n)) (to + n))
-    (digits-exact 256 8 (part s (from + n) 8) (length-part s (from + n) 8 (omega arith))
-    (below-take 8 (drop (from + n) s) (below-drop (from + n) s b)))
-    ∙ copy-more d to s from n 8 hd hs
+-- a word read and written
+pub word-part : (s : List ℕ) (at n : ℕ) → at + n ≤ length s → Below 256 s → toLe n (fromLe (part s at n)) ≡ part s at n
+word-part s at n h b = digits-exact 256 n (part s at n) (length-part s at n h) (below-take n (drop at s) (below-drop at s b))

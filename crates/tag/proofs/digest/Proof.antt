@@ -1,92 +1,107 @@
--- `tag::digest` meets its contract. The loop's invariant: `v` is the state after the first `i` of the last words.
--- Assumes nothing.
-use mathlib.Core.Path.{_≡_, _∙_, ap, ap₂, refl, sym}
-use mathlib.Core.List.{List}
-use Prim.Native.Nat.{ℕ, _-_, _≤_, zero-le}
-use native.Mathlib.Omega.{arith}
+-- `tag::digest` meets its contract. Assumes nothing.
+use mathlib.Core.Path.{_≡_, _∙_, ap, ap₂, sym}
+use mathlib.Core.Bool.{Bool, cond}
+use mathlib.Core.List.{List, [], _∷_, _++_}
+use Prim.Native.Nat.{ℕ}
 use borrow.Author.Needs.{needs}
-use lib.ListN.{length, take}
-use Rattle.words.specs.Bytes.{wordsOf}
-use Rattle.siphash.specs.SipHash.{initial, compressAll, finalize}
-use Rattle.siphash.proofs.Messages.{compress-append, compress-next}
+use borrow.Author.Tests.{eq-eqb, ne-eqb}
+use lib.Dec.{eqb}
+use Rattle.words.specs.Bytes.{fromLe, part, wordsOf}
+use Rattle.siphash.specs.SipHash.{initial, compress, compressAll, finalize}
+use Rattle.siphash.proofs.Messages.{compress-append}
 use Rattle.tag.proofs.digest.Statement.{statement}
 use Rattle.tag.proofs.digest.Tie as tie
 
-abbrev Inv-loop : tie.InvT-loop
-Inv-loop keys content n last v₀ i₀ v i = (i ≤ n) × (v ≡ compressAll v₀ (take i last))
+abbrev start : tie.After-compress3 → tie.Start
+start w = w .before .before .before .before .before .before .before .before
 
-abbrev μ-loop : tie.MeasureT-loop
-μ-loop keys content n last v₀ i₀ v i = n - i
+-- the words of a content and three others, and a rest
+abbrev message : tie.After-compress3 → List ℕ → List ℕ
+message w rest =
+    let args = start w .args in
+    wordsOf 8 8 (args .content .now) ++ (args .a ∷ args .b ∷ args .c ∷ rest)
 
-load64-requires : tie.Need-load64-requires Inv-loop μ-loop
-load64-requires c κs = omega arith
+abbrev keyed : tie.After-compress3 → List ℕ
+keyed w =
+    let keys = start w .args .keys .now in
+    initial (fromLe (part keys 32 8)) (fromLe (part keys 40 8))
 
-load64-requires-2 : tie.Need-load64-requires-2 Inv-loop μ-loop
-load64-requires-2 c κs = omega arith
-
-absorb-requires : tie.Need-absorb-requires Inv-loop μ-loop
-absorb-requires c κs = omega arith
-
-loop-holds : tie.Need-loop-holds Inv-loop μ-loop
+-- the state after three words, with a rest to come
+absorbed : (w : tie.After-compress3) (rest : List ℕ) → compressAll (w .compress3 .result) rest ≡ compressAll (keyed w) (message w rest)
 unfolding compressAll
-loop-holds c = (zero-le, refl)
+absorbed w rest =
+    let args = start w .args in
+    let second = w .before in
+    let first = second .before in
+    let content = first .before in
+    let words = wordsOf 8 8 (args .content .now) in
+    let key = ap₂ initial (content .before .before .load64 .ensures) (content .before .load642 .ensures) in
+    let v = content .absorb .ensures ∙ ap (λ (k : List ℕ). compressAll k words) key in
+    let v1 = first .compress .ensures ∙ ap (λ (x : List ℕ). compress x (args .a)) v in
+    let v2 = second .compress2 .ensures ∙ ap (λ (x : List ℕ). compress x (args .b)) v1 in
+    let v3 = w .compress3 .ensures ∙ ap (λ (x : List ℕ). compress x (args .c)) v2 in
+    ap (λ (x : List ℕ). compressAll x rest) v3 ∙ sym (compress-append (keyed w) words (args .a ∷ args .b ∷ args .c ∷ rest))
 
-mul-compress : tie.Need-mul-compress Inv-loop μ-loop
-mul-compress c = omega arith
+-- the last word, if there is one
+abbrev last : ℕ → Bool → List ℕ
+last d b = cond b [] (d ∷ [])
 
-array-read-compress : tie.Need-array-read-compress Inv-loop μ-loop
-array-read-compress c = omega arith
+load64-requires : tie.Need-load64-requires
+load64-requires c κs = search needs
 
-compress-requires : tie.Need-compress-requires Inv-loop μ-loop
-compress-requires c κs = tt
+load64-requires-2 : tie.Need-load64-requires-2
+load64-requires-2 c κs = search needs
 
-add-i : tie.Need-add-i Inv-loop μ-loop
-add-i c = omega arith
+absorb-requires : tie.Need-absorb-requires
+absorb-requires c κs = search needs
 
-loop-less : tie.Need-loop-less Inv-loop μ-loop
-loop-less c = omega arith
+compress-requires : tie.Need-compress-requires
+compress-requires c κs = search needs
 
-loop-again : tie.Need-loop-again Inv-loop μ-loop
-loop-again c =
-    let at = c .before .before in
-    let start = at .before .before .before .before .before .before in
-    let last = start .args .t3 in
-    let size : length last ≡ 4 = search needs in
-    let next = compress-next (at .before .absorb .result) last (at .loop .i) (omega arith) (at .loop .inv .1) refl in
-    (omega arith, c .compress .ensures ∙ next)
+compress-requires-2 : tie.Need-compress-requires-2
+compress-requires-2 c κs = search needs
 
-finalize-requires : tie.Need-finalize-requires Inv-loop μ-loop
-finalize-requires c κs = tt
+compress-requires-3 : tie.Need-compress-requires-3
+compress-requires-3 c κs = search needs
 
-returns : tie.Need-returns Inv-loop μ-loop
+finalize-requires : tie.Need-finalize-requires
+finalize-requires c κs = search needs
+
+returns : tie.Need-returns
+unfolding compressAll
 returns c =
-    let at = c .before .before in
-    let absorbed = at .before in
-    let start = absorbed .before .before .before .before .before in
-    let last = start .args .t3 in
-    let all : at .loop .i ≡ start .args .n = omega arith in
-    let key = ap₂ initial (absorbed .before .before .load64 .ensures) (absorbed .before .load642 .ensures) in
-    let words = wordsOf 8 8 (start .args .content .now) in
-    let first = absorbed .absorb .ensures ∙ ap (λ (v : List ℕ). compressAll v words) key in
-    let both = ap₂ {C = List ℕ} (λ (v : List ℕ) (k : ℕ). compressAll v (take k last)) first all in
-    c .finalize .ensures
-    ∙ ap finalize (at .loop .inv .1 ∙ both ∙ sym (compress-append _ words (take (start .args .n) last)))
+    let w = c .before .before in
+    let d = start w .args .d in
+    c .finalize .ensures ∙ ap finalize (absorbed w [])
+    ∙ ap (λ (b : Bool). finalize (compressAll (keyed w) (message w (last d b)))) (sym (eq-eqb d 0 (c .before .if1 .taken)))
+
+compress-requires-4 : tie.Need-compress-requires-4
+compress-requires-4 c κs = search needs
+
+finalize-requires-2 : tie.Need-finalize-requires-2
+finalize-requires-2 c κs = search needs
+
+returns-2 : tie.Need-returns-2
+unfolding compressAll
+returns-2 c =
+    let else = c .before .before in
+    let w = else .before in
+    let d = start w .args .d in
+    c .finalize2 .ensures ∙ ap finalize (c .before .compress4 .ensures ∙ absorbed w (d ∷ []))
+    ∙ ap (λ (b : Bool). finalize (compressAll (keyed w) (message w (last d b)))) (sym (ne-eqb d 0 (else .if1 .left)))
 
 pub digest-spec : {M : Type 1} → statement M
 digest-spec =
     tie.close
     (tie.spec
-    Inv-loop
-    μ-loop
     load64-requires
     load64-requires-2
     absorb-requires
-    loop-holds
-    mul-compress
-    array-read-compress
     compress-requires
-    add-i
-    loop-less
-    loop-again
+    compress-requires-2
+    compress-requires-3
     finalize-requires
-    returns)
+    returns
+    compress-requires-4
+    finalize-requires-2
+    returns-2)
