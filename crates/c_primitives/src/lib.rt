@@ -18,7 +18,7 @@ pub extern "C" fn nv_chacha20_block(key: &[u8], counter: u32, nonce: &[u8], out:
     if out.len() != 64 {
         return 1;
     }
-    let block = chacha20::block(key, counter, nonce);
+    let block = chacha20_block::block(key, counter, nonce);
     copying::copy(out, 0, &block, 0, 64);
     0
 }
@@ -35,6 +35,6 @@ pub extern "C" fn nv_siphash24(key: &[u8], message: &[u8], out: &mut [u8]) -> u3
     if out.len() != 8 {
         return 1;
     }
-    words::store64(out, 0, siphash::hash(key, message));
+    words::store64(out, 0, siphash_message::hash(key, message));
     0
 }

@@ -5,7 +5,7 @@ ghost use lib.ListN.{length, getD};
 ghost use Rattle.words.specs.Bytes.{toLe, bytesOf, part, put};
 ghost use Rattle.chacha20.specs.Rows.{row};
 ghost use Rattle.pad.specs.Pad.{xorBytes, pad as padOf};
-use chacha20::key_rows;
+use chacha20_block::key_rows;
 use words::load32;
 use words::store32;
 

@@ -8,10 +8,10 @@ ghost use lib.ListN.{length};
 ghost use Rattle.words.specs.Bytes.{fromLe, toLe, part, put, wordsOf};
 ghost use Rattle.siphash.specs.SipHash.{initial, compressAll, finalize as finalized};
 ghost use Rattle.tag.specs.Tag.{nodeTag, dataTag};
-use siphash::absorb;
-use siphash::absorb_changed;
 use siphash::compress;
 use siphash::finalize;
+use siphash_message::absorb;
+use siphash_message::absorb_changed;
 use words::load64;
 
 // The hash of a content, 64 bytes, and of three words, or of four where the last is not 0, under keys of 48 bytes.

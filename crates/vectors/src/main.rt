@@ -24,7 +24,7 @@ fn chacha20_line(name: &[u8], key: &[u8; 32], counter: u32, nonce: &[u8; 12]) {
     io::write_all(STDOUT_FILENO, b"chacha20 ");
     io::write_all(STDOUT_FILENO, name);
     io::write_all(STDOUT_FILENO, b" ");
-    end_line(&chacha20::block(key, counter, nonce));
+    end_line(&chacha20_block::block(key, counter, nonce));
 }
 
 // RFC 8439, section 2.3.2: the key 00 to 1f, counter 1.
@@ -69,7 +69,7 @@ fn siphash_line(message: &[u8]) {
     io::write_all(STDOUT_FILENO, b" ");
     let key = b"\x00\x01\x02\x03\x04\x05\x06\x07\x08\x09\x0a\x0b\x0c\x0d\x0e\x0f";
     let mut out = [0u8; 8];
-    words::store64(&mut out, 0, siphash::hash(key, message));
+    words::store64(&mut out, 0, siphash_message::hash(key, message));
     end_line(&out);
 }
 

@@ -171,13 +171,6 @@ number-from b ds i h =
 pub number-exact : (b n x : ℕ) → 0 < b → x < b ^ n → number b (digits b n x) ≡ x
 number-exact b n x hb hx = number-digits b n x hb ∙ mod-eq-of-lt hx
 
--- the digits of one number, then those of another
-pub number-two : (b n m x y : ℕ) → 0 < b → x < b ^ n → y < b ^ m → number b (digits b n x ++ digits b m y) ≡ x + y * b ^ n
-number-two b n m x y hb hx hy =
-    number-append b (digits b n x) (digits b m y)
-    ∙ ap₂ (λ (a r : ℕ). a + r) (number-exact b n x hb hx)
-    (ap₂ (λ (k z : ℕ). b ^ k * z) (length-digits b n x) (number-exact b m y hb hy) ∙ mul-comm (b ^ n) y)
-
 pub digits-exact : (b n : ℕ) (ds : List ℕ) → length ds ≡ n → Below b ds → digits b n (number b ds) ≡ ds
 digits-exact b n ds hl hb = ap (λ (k : ℕ). digits b k (number b ds)) (sym hl) ∙ digits-number b ds hb
 

@@ -4,10 +4,10 @@ use mathlib.Core.List.{List, [], _∷_, _++_}
 use Prim.Native.Nat.{ℕ}
 use borrow.Author.Needs.{needs}
 use Rattle.words.specs.Bytes.{wordsOf}
 use Rattle.chacha20.specs.ChaCha20.{constants, start, serialised, block}
-use Rattle.chacha20.proofs.Rows.{three-at}
-use Rattle.chacha20.proofs.block.Statement.{statement}
-use Rattle.chacha20.proofs.block.Tie as tie
+use Rattle.chacha20_block.proofs.Rows.{three-at}
+use Rattle.chacha20_block.proofs.block.Statement.{statement}
+use Rattle.chacha20_block.proofs.block.Tie as tie
 
 load32-requires : tie.Need-load32-requires
 load32-requires c κs = search needs

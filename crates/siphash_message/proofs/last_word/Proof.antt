@@ -1,4 +1,4 @@
--- `siphash::last_word` meets its contract. The loop's invariant: `sum` is the number in the bytes from `i`, which are at most 7.
+-- `siphash_message::last_word` meets its contract. The loop's invariant: `sum` is the number in the bytes from `i`, which are at most 7.
 -- Assumes nothing.
 use mathlib.Core.Path.{_≡_, _∙_, ap, ap₂}
 use Prim.Native.Nat.{ℕ, _+_, _-_, _*_, _/_, _%_, _^_, _≤_, _<_}
@@ -7,10 +7,10 @@ use lib.Dec.{lit<}
 use lib.ListN.{length, drop}
 use Rattle.words.specs.Bytes.{fromLe}
 use Rattle.words.proofs.Digits.{Below}
 use Rattle.siphash.specs.SipHash.{lastWord}
 use Rattle.siphash.proofs.Messages.{left-none, left-more, left-lt}
-use Rattle.siphash.proofs.last_word.Statement.{statement}
-use Rattle.siphash.proofs.last_word.Tie as tie
+use Rattle.siphash_message.proofs.last_word.Statement.{statement}
+use Rattle.siphash_message.proofs.last_word.Tie as tie
 
 abbrev Inv-loop : tie.InvT-loop
 Inv-loop s base i₀ sum₀ i sum = (base ≤ i) × (i ≤ length s) × (sum ≡ fromLe (drop i s)) × (sum < 2 ^ 56)

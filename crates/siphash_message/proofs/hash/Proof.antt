@@ -1,4 +1,4 @@
--- `siphash::hash` meets its contract, from what its callees ensure.
+-- `siphash_message::hash` meets its contract, from what its callees ensure.
 -- Assumes nothing.
 use mathlib.Core.Path.{_∙_, ap, ap₂}
 use mathlib.Core.List.{List}
@@ -6,10 +6,10 @@ use Prim.Native.Nat.{ℕ, _/_}
 use borrow.Author.Needs.{needs}
 use lib.ListN.{length}
 use Rattle.words.specs.Bytes.{wordsOf}
 use Rattle.siphash.specs.SipHash.{initial, compress, compressAll, finalize}
 use Rattle.siphash.proofs.Messages.{hash-last}
-use Rattle.siphash.proofs.hash.Statement.{statement}
-use Rattle.siphash.proofs.hash.Tie as tie
+use Rattle.siphash_message.proofs.hash.Statement.{statement}
+use Rattle.siphash_message.proofs.hash.Tie as tie
 
 load64-requires : tie.Need-load64-requires
 load64-requires c κs = search needs

@@ -1,8 +1,8 @@
 -- `row_bytes` gives the bytes of four rows, by `put-rows`. Assumes nothing.
 use borrow.Author.Needs.{needs}
-use Rattle.chacha20.proofs.Rows.{put-rows}
-use Rattle.chacha20.proofs.row_bytes.Statement.{statement}
-use Rattle.chacha20.proofs.row_bytes.Tie as tie
+use Rattle.chacha20_block.proofs.Rows.{put-rows}
+use Rattle.chacha20_block.proofs.row_bytes.Statement.{statement}
+use Rattle.chacha20_block.proofs.row_bytes.Tie as tie
 
 slice-aggregate-store-row : tie.Need-slice-aggregate-store-row
 slice-aggregate-store-row c = search needs

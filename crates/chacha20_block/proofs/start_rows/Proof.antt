@@ -3,10 +3,10 @@ use mathlib.Core.Path.{_∙_}
 use mathlib.Core.List.{[], _∷_}
 use borrow.Author.Needs.{needs}
 use Rattle.words.specs.Bytes.{number, wordsOf}
 use Rattle.chacha20.specs.Rows.{flat}
-use Rattle.chacha20.proofs.Rows.{start-flat}
-use Rattle.chacha20.proofs.start_rows.Statement.{statement}
-use Rattle.chacha20.proofs.start_rows.Tie as tie
+use Rattle.chacha20_block.proofs.Rows.{start-flat}
+use Rattle.chacha20_block.proofs.start_rows.Statement.{statement}
+use Rattle.chacha20_block.proofs.start_rows.Tie as tie
 
 slice-aggregate-load-row : tie.Need-slice-aggregate-load-row
 slice-aggregate-load-row c = search needs

@@ -2,9 +2,9 @@
 use mathlib.Core.Path.{_∙_}
 use mathlib.Core.List.{[], _∷_}
 use borrow.Author.Needs.{needs}
-use Rattle.chacha20.proofs.Rows.{row-at}
-use Rattle.chacha20.proofs.load_row.Statement.{statement}
-use Rattle.chacha20.proofs.load_row.Tie as tie
+use Rattle.chacha20_block.proofs.Rows.{row-at}
+use Rattle.chacha20_block.proofs.load_row.Statement.{statement}
+use Rattle.chacha20_block.proofs.load_row.Tie as tie
 
 load32-requires : tie.Need-load32-requires
 load32-requires c κs = search needs

@@ -1,4 +1,4 @@
--- `siphash::absorb_changed` meets its contract. The loop's invariant: `r` is the state after the first `i` words.
+-- `siphash_message::absorb_changed` meets its contract. The loop's invariant: `r` is the state after the first `i` words.
 -- Assumes nothing.
 use mathlib.Core.Path.{_≡_, _∙_, ap, sym}
 use mathlib.Core.Logic.{⊎-elim}
@@ -8,10 +8,10 @@ use lib.ListN.{getD, set, take, length-set}
 use lib.Seq.{take-all, getD-set-same, getD-set-other}
 use Rattle.words.specs.Bytes.{fromLe, part, wordsOf}
 use Rattle.words.proofs.Words.{getD-words, length-words}
 use Rattle.siphash.specs.SipHash.{initial, compressAll}
 use Rattle.siphash.proofs.Messages.{compress-next}
-use Rattle.siphash.proofs.absorb_changed.Statement.{statement}
-use Rattle.siphash.proofs.absorb_changed.Tie as tie
+use Rattle.siphash_message.proofs.absorb_changed.Statement.{statement}
+use Rattle.siphash_message.proofs.absorb_changed.Tie as tie
 
 abbrev Inv-loop : tie.InvT-loop
 Inv-loop k0 k1 s n j x r₀ i₀ r i = (i ≤ n) × (r ≡ compressAll (initial k0 k1) (take i (set (wordsOf 8 n s) j x)))

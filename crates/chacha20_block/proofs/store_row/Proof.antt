@@ -1,8 +1,8 @@
 -- `store_row` writes four words, by `put-row`. Assumes nothing.
 use borrow.Author.Needs.{needs}
-use Rattle.chacha20.proofs.Rows.{put-row}
-use Rattle.chacha20.proofs.store_row.Statement.{statement}
-use Rattle.chacha20.proofs.store_row.Tie as tie
+use Rattle.chacha20_block.proofs.Rows.{put-row}
+use Rattle.chacha20_block.proofs.store_row.Statement.{statement}
+use Rattle.chacha20_block.proofs.store_row.Tie as tie
 
 array-read-store32 : tie.Need-array-read-store32
 array-read-store32 c = search needs

@@ -4,11 +4,11 @@ use mathlib.Core.List.{List}
 use Prim.Native.Nat.{ℕ}
 use borrow.Author.Needs.{needs}
 use Rattle.words.specs.Bytes.{bytesOf}
 use Rattle.chacha20.specs.ChaCha20.{addStates, serialised}
 use Rattle.chacha20.specs.Rows.{flat}
-use Rattle.chacha20.proofs.Rows.{sum-flat}
-use Rattle.chacha20.proofs.key_rows.Statement.{statement}
-use Rattle.chacha20.proofs.key_rows.Tie as tie
+use Rattle.chacha20_block.proofs.Rows.{sum-flat}
+use Rattle.chacha20_block.proofs.key_rows.Statement.{statement}
+use Rattle.chacha20_block.proofs.key_rows.Tie as tie
 
 start-rows-requires : tie.Need-start-rows-requires
 start-rows-requires c κs = search needs

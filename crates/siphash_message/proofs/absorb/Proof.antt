@@ -1,4 +1,4 @@
--- `siphash::absorb` meets its contract. The loop's invariant: `r` is the state after the first `i` words.
+-- `siphash_message::absorb` meets its contract. The loop's invariant: `r` is the state after the first `i` words.
 -- Assumes nothing.
 use mathlib.Core.Path.{_≡_, _∙_, ap, sym}
 use Prim.Native.Nat.{_-_, _≤_, zero-le}
@@ -7,10 +7,10 @@ use lib.ListN.{take}
 use lib.Seq.{take-all}
 use Rattle.words.specs.Bytes.{wordsOf}
 use Rattle.words.proofs.Words.{getD-words, length-words}
 use Rattle.siphash.specs.SipHash.{initial, compressAll}
 use Rattle.siphash.proofs.Messages.{compress-next}
-use Rattle.siphash.proofs.absorb.Statement.{statement}
-use Rattle.siphash.proofs.absorb.Tie as tie
+use Rattle.siphash_message.proofs.absorb.Statement.{statement}
+use Rattle.siphash_message.proofs.absorb.Tie as tie
 
 abbrev Inv-loop : tie.InvT-loop
 Inv-loop k0 k1 s n r₀ i₀ r i = (i ≤ n) × (r ≡ compressAll (initial k0 k1) (take i (wordsOf 8 n s)))
