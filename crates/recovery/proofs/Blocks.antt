@@ -16,7 +16,7 @@ use Rattle.slot_map.proofs.Laws.{belongs-node, level-within}
 use Rattle.counter.specs.Counter.{major, minors, counterBlock}
 use Rattle.counter.proofs.Laws.{length-counterBlock}
 use Rattle.cache.specs.Cache.{withSlot, cellContent}
-use Rattle.cache.proofs.Steps.{rest, none as past}
+use Rattle.cache.proofs.Owners.{rest, none as past}
 use Rattle.node.proofs.Laws.{slot-put, cell-room}
 use Rattle.calls.specs.Recovery.{Rebuilt, rebuilt, damaged, forwardFrom, phaseByte, total, rebuildBlock, rebuildSlot, rebuildBlocks}
 use Rattle.recovery.specs.Rebuild.{Placed}

@@ -14,7 +14,7 @@ use Rattle.slot_map.specs.Slots.{cacheLength, levelOf}
 use Rattle.slot_map.proofs.Laws.{level-high}
 use Rattle.tag.specs.Tag.{nodeTag}
 use Rattle.cache.specs.Cache.{withSlot, current}
-use Rattle.cache.proofs.Steps.{none}
+use Rattle.cache.proofs.Owners.{none}
 use Rattle.calls.specs.Path.{tagsFrom, childTags}
 use Rattle.calls.specs.Recovery.{rebuildNode, rebuildNodes}
 use Rattle.call_laws.proofs.Tags.{tags-length, tags-snoc}

@@ -208,8 +208,8 @@ fn recover_media(keys: &[u8], control: &[u8], array: &[u8], cache: &mut [u8], st
         ≡ recoverMedia (now (keys .entry)) stores (buffers (now (array .entry)) (now (control .entry)) (now (cache .entry))) ⌝ }
 {
     let h = control::depth(control);
-    let owners = cache::shadow_owners(h, array);
-    let bad = cache::bad_slot(h, owners);
+    let owners = shadow::shadow_owners(h, array);
+    let bad = shadow::bad_slot(h, owners);
     if let Found::At(s) = bad {
         return Answer::Refused {
             number: 27,

@@ -1,24 +1,24 @@
--- The turns of the loops over slots, and how their functions end. Assumes nothing.
+-- The turns of the loops over owners, and how their functions end. Assumes nothing.
 use mathlib.Core.Path.{_≡_, sym, ap, ap₂, _∙_, subst, fun-ext}
-use mathlib.Core.Bool.{Bool, true, false, _&&_, _||_, not, cond}
+use mathlib.Core.Bool.{Bool, false, _&&_, _||_, not, cond}
 use mathlib.Core.List.{List, [], _∷_, _++_}
 use Prim.Native.Nat.{ℕ, zero, suc, _+_, _*_, _<_, _≤_}
 use native.Mathlib.Nat.{add-zero, zero-add, mul-suc, mul-le-mul-left, le-refl}
 use native.Mathlib.Numerals.{add-one}
 use native.Mathlib.Omega.{arith}
-use lib.Dec.{leb, eqb}
-use lib.ListN.{length, take, drop, getD, set, length-take, drop-of-length-le}
-use lib.Seq.{drop-cons, take-suc-set, getD-take, length-take-le}
-use borrow.Author.Tests.{eq-eqb, ne-eqb}
+use lib.Dec.{eqb}
+use lib.ListN.{length, take, drop, getD, set}
+use lib.Seq.{take-suc-set, getD-take}
+use Rattle.words.specs.Bytes.{fromLe, part}
 use Rattle.memory_map.specs.Map.{slots, cellOf}
+use Rattle.memory_map.specs.Map.Item.{shadow}
 use Rattle.memory_map.proofs.Laws.{shadow-after}
 use Rattle.slot_map.specs.Slots.{belongs}
-use Rattle.memory_map.specs.Map.Item.{shadow}
-use Rattle.words.specs.Bytes.{fromLe, part}
 use Rattle.slot_map.proofs.Laws.{slot-within}
 use Rattle.cache.specs.Cache.{from, topSlot, stray, anyOwner, missingTop, orElse, badSlot, shadowOwner}
 use Rattle.cache.specs.declared.Found.{Found}
 use Rattle.cache.specs.declared.Found.the-variants.{Nothing, At}
+use Rattle.cache.proofs.Owners.{rest, none}
 
 -- a step that is left stays within
 pub step-within : (first step s n len : ℕ) → s < n → first + step * n ≤ len → first + step * s + step ≤ len
@@ -36,22 +36,6 @@ pub owners-next : (f : ℕ → ℕ) (os : List ℕ) (s o : ℕ) → s < length o
 owners-next f os s o h e p =
     rw (add-one s) (take-suc-set os s o h
     ∙ ap₂ {C = List ℕ} (λ (l : List ℕ) (x : ℕ). l ++ (x ∷ [])) e (p ∙ ap f (sym (zero-add s))) ∙ sym (from-snoc f 0 s))
-
--- the first of n elements from s on, and the rest
-pub rest : (os : List ℕ) (n s : ℕ) → s < n → n ≤ length os → drop s (take n os) ≡ getD os s 0 ∷ drop (suc s) (take n os)
-rest os n s p q =
-    drop-cons (take n os) s 0 (rw (length-take-le n os q) p)
-    ∙ ap (λ (x : ℕ). x ∷ drop (suc s) (take n os)) (getD-take n os s 0 p)
-
-pub none : (os : List ℕ) (n s : ℕ) → n ≤ s → drop s (take n os) ≡ []
-none os n s p = drop-of-length-le (take n os) (let end : length (take n os) ≤ s = rw (length-take n os) (omega arith) in end)
-
--- an empty slot is in place, and a filled one where its owner belongs
-pub place-empty : (o : ℕ) (b : Bool) → o ≡ 0 → (eqb o 0 || b) ≡ true
-place-empty o b e = ap (λ (t : Bool). t || b) (eq-eqb o 0 e)
-
-pub place-filled : (o : ℕ) (b : Bool) → (o ≡ 0 → ⊥) → (eqb o 0 || b) ≡ b
-place-filled o b e = ap (λ (t : Bool). t || b) (ne-eqb o 0 e)
 
 pub stray-turn : (h : ℕ) (os : List ℕ) (n s : ℕ) (b : Bool) → s < n → n ≤ length os
     → (eqb (getD os s 0) 0 || belongs h s (getD os s 0)) ≡ b
@@ -73,13 +57,6 @@ any-turn os n s b p q e =
 pub any-end : (os : List ℕ) (n s : ℕ) → n ≤ s → anyOwner (drop s (take n os)) ≡ false
 unfolding anyOwner
 any-end os n s p = rw (none os n s p)
-
--- what is asked of dirty in an empty slot, and in a filled one
-pub flag-empty : (o d : ℕ) → o ≡ 0 → leb d (cond (eqb o 0) 0 1) ≡ leb d 0
-flag-empty o d e = ap (λ (b : Bool). leb d (cond b 0 1)) (eq-eqb o 0 e)
-
-pub flag-filled : (o d : ℕ) → (o ≡ 0 → ⊥) → leb d (cond (eqb o 0) 0 1) ≡ leb d 1
-flag-filled o d e = ap (λ (b : Bool). leb d (cond b 0 1)) (ne-eqb o 0 e)
 
 -- the ends of `bad_slot`: a stray slot, and none
 pub bad-stray : (h s : ℕ) (os : List ℕ) → stray h 0 os ≡ At s → At s ≡ badSlot h os

@@ -1,14 +1,14 @@
--- `cache::shadow_owners` meets its contract. Assumes nothing.
+-- `shadow::shadow_owners` meets its contract. Assumes nothing.
 use Prim.Native.Nat.{_+_, _*_}
 use native.Mathlib.Omega.{arith}
 use Rattle.words.specs.Bytes.{fromLe, part}
 use Rattle.memory_map.specs.Map.{slots, arrayLength, InMap}
 use Rattle.memory_map.proofs.Laws.{cell-small, shadow-room}
 use Rattle.cache.specs.Cache.{shadowOwner}
-use Rattle.cache.proofs.Steps.{owners-are, shadow-step}
+use Rattle.shadow.proofs.Steps.{owners-are, shadow-step}
 use borrow.Author.Needs.{needs}
-use Rattle.cache.proofs.shadow_owners.Statement.{statement}
-use Rattle.cache.proofs.shadow_owners.Tie as tie
+use Rattle.shadow.proofs.shadow_owners.Statement.{statement}
+use Rattle.shadow.proofs.shadow_owners.Tie as tie
 
 shadow-cell-requires : tie.Need-shadow-cell-requires
 unfolding InMap slots

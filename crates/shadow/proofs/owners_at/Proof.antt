@@ -1,4 +1,4 @@
--- `cache::owners_at` meets its contract. Assumes nothing.
+-- `shadow::owners_at` meets its contract. Assumes nothing.
 use mathlib.Core.Path.{_≡_, refl, ap, _∙_}
 use Prim.Native.Nat.{ℕ, _+_, _-_, _*_, _≤_, zero-le}
 use native.Mathlib.Nat.{mul-suc, mul-zero}
@@ -6,10 +6,10 @@ use native.Mathlib.Numerals.{add-one}
 use native.Mathlib.Omega.{arith}
 use lib.ListN.{length, take, length-set}
 use Rattle.words.specs.Bytes.{fromLe, part}
 use Rattle.cache.specs.Cache.{from}
-use Rattle.cache.proofs.Steps.{step-within, owners-next}
-use Rattle.cache.proofs.owners_at.Statement.{statement}
-use Rattle.cache.proofs.owners_at.Tie as tie
+use Rattle.shadow.proofs.Steps.{step-within, owners-next}
+use Rattle.shadow.proofs.owners_at.Statement.{statement}
+use Rattle.shadow.proofs.owners_at.Tie as tie
 
 abbrev Inv-loop : tie.InvT-loop
 Inv-loop bytes first step n owners₀ at₀ s₀ owners at s =

@@ -1,15 +1,15 @@
--- `cache::any_owner` meets its contract. Assumes nothing.
+-- `shadow::any_owner` meets its contract. Assumes nothing.
 use mathlib.Core.Path.{_≡_, refl, sym, _∙_}
 use Prim.Native.Nat.{_-_, _≤_, zero-le}
 use native.Mathlib.Omega.{arith}
 use lib.ListN.{length, take, drop}
 use Rattle.cache.specs.Cache.{anyOwner}
-use Rattle.cache.proofs.Steps.{any-turn, any-end}
+use Rattle.shadow.proofs.Steps.{any-turn, any-end}
 use borrow.Author.Needs.{needs}
 use mathlib.Core.Bool.{true, false}
 use borrow.Author.Tests.{eq-eqb, ne-eqb}
-use Rattle.cache.proofs.any_owner.Statement.{statement}
-use Rattle.cache.proofs.any_owner.Tie as tie
+use Rattle.shadow.proofs.any_owner.Statement.{statement}
+use Rattle.shadow.proofs.any_owner.Tie as tie
 
 abbrev Inv-loop : tie.InvT-loop
 Inv-loop n owners s₀ s = (s ≤ n) × (anyOwner (take n owners) ≡ anyOwner (drop s (take n owners)))

@@ -1,4 +1,4 @@
--- `cache::bad_slot` meets its contract. Assumes nothing.
+-- `shadow::bad_slot` meets its contract. Assumes nothing.
 use mathlib.Core.Path.{_≡_, sym, ap, ap₂, _∙_}
 use mathlib.Core.Bool.{Bool, true, false, _&&_, cond, and-false}
 use Prim.Native.Nat.{ℕ, _<_}
@@ -9,12 +9,12 @@ use lib.ListN.{take, getD}
 use borrow.Author.Tests.{eq-eqb, ne-eqb}
 use Rattle.memory_map.specs.Map.{slots}
 use Rattle.slot_map.proofs.Laws.{slot-within}
 use Rattle.cache.specs.Cache.{anyOwner, badSlot}
 use Rattle.cache.specs.declared.Found.the-variants.{Nothing, At}
-use Rattle.cache.proofs.Steps.{bad-stray, bad-top}
+use Rattle.shadow.proofs.Steps.{bad-stray, bad-top}
 use borrow.Author.Needs.{needs}
-use Rattle.cache.proofs.bad_slot.Statement.{statement}
-use Rattle.cache.proofs.bad_slot.Tie as tie
+use Rattle.shadow.proofs.bad_slot.Statement.{statement}
+use Rattle.shadow.proofs.bad_slot.Tie as tie
 
 first-stray-requires : tie.Need-first-stray-requires
 first-stray-requires c κs = search needs

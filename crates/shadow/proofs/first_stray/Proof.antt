@@ -1,4 +1,4 @@
--- `cache::first_stray` meets its contract. Assumes nothing.
+-- `shadow::first_stray` meets its contract. Assumes nothing.
 use borrow.Author.Needs.{needs}
 use mathlib.Core.Path.{_≡_, refl, sym, _∙_}
 use mathlib.Core.Logic.{⊎-elim}
@@ -10,11 +10,12 @@ use lib.ListN.{length, take, drop, getD}
 use borrow.Author.Tests.{not-true, not-false}
 use Rattle.memory_map.specs.Map.{slots}
 use Rattle.slot_map.specs.Slots.{belongs}
 use Rattle.cache.specs.declared.Found.the-variants.{At}
 use Rattle.cache.specs.Cache.{stray}
-use Rattle.cache.proofs.Steps.{place-empty, place-filled, stray-turn, stray-end}
-use Rattle.cache.proofs.first_stray.Statement.{statement}
-use Rattle.cache.proofs.first_stray.Tie as tie
+use Rattle.cache.proofs.Owners.{place-empty, place-filled}
+use Rattle.shadow.proofs.Steps.{stray-turn, stray-end}
+use Rattle.shadow.proofs.first_stray.Statement.{statement}
+use Rattle.shadow.proofs.first_stray.Tie as tie
 
 abbrev Inv-loop : tie.InvT-loop
 Inv-loop h owners n s₀ s = (s ≤ n) × (stray h 0 (take n owners) ≡ stray h s (drop s (take n owners)))
