@@ -1,4 +1,4 @@
--- `format::put_level` writes a level, node by node. Assumes nothing.
+-- `fresh_tree::put_level` writes a level, node by node. Assumes nothing.
 use mathlib.Core.Path.{_≡_, sym, ap, _∙_}
 use Prim.Native.Nat.{ℕ, suc, _+_, _-_, _≤_, zero-le}
 use native.Mathlib.Omega.{arith}
@@ -6,10 +6,10 @@ use lib.ListN.{length}
 use Rattle.memory_map.specs.Map.{InMap, nodes, levelStart, arrayLength}
 use Rattle.memory_map.specs.Map.Item.{node}
 use Rattle.memory_map.proofs.Laws.{level-next}
-use Rattle.format.specs.Front.{freshFront}
-use Rattle.format.proofs.Fronts.{resized, node-next}
-use Rattle.format.proofs.put_level.Statement.{statement}
-use Rattle.format.proofs.put_level.Tie as tie
+use Rattle.fresh_tree.specs.Front.{freshFront}
+use Rattle.fresh_tree.proofs.Fronts.{resized, node-next}
+use Rattle.fresh_tree.proofs.put_level.Statement.{statement}
+use Rattle.fresh_tree.proofs.put_level.Tie as tie
 
 abbrev Inv-loop : tie.InvT-loop
 Inv-loop h keys l array₀ n i₀ array i = (i ≤ n) × ((array ≡ freshFront keys h (levelStart h (l + 1) + i)) × (length array ≡ arrayLength h))

@@ -1,4 +1,4 @@
--- `format::put_node` stores the tags of the eight children, one by one. Assumes nothing.
+-- `fresh_tree::put_node` stores the tags of the eight children, one by one. Assumes nothing.
 use mathlib.Core.Path.{_≡_, sym, ap, _∙_}
 use Prim.Native.Nat.{ℕ, _+_, _-_, _*_, _≤_, _<_, zero-le}
 use native.Mathlib.Omega.{arith}
@@ -11,9 +11,9 @@ use Rattle.cache.specs.Cache.{cellContent}
 use Rattle.cache.proofs.Laws.{cell-length}
 use Rattle.node.proofs.Laws.{cell-room}
 use Rattle.calls.specs.Path.{tagsFrom}
-use Rattle.format.proofs.Fronts.{lying, Tagged, tagged-none, tagged-next}
-use Rattle.format.proofs.put_node.Statement.{statement}
-use Rattle.format.proofs.put_node.Tie as tie
+use Rattle.fresh_tree.proofs.Fronts.{lying, Tagged, tagged-none, tagged-next}
+use Rattle.fresh_tree.proofs.put_node.Statement.{statement}
+use Rattle.fresh_tree.proofs.put_node.Tie as tie
 
 abbrev Inv-loop : tie.InvT-loop
 Inv-loop h keys l i array₀ at k₀ array k = (k ≤ 8) × Tagged h l i keys array₀ array k

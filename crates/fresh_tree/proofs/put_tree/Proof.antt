@@ -1,14 +1,14 @@
--- `format::put_tree` writes the tree, level by level. Assumes nothing.
+-- `fresh_tree::put_tree` writes the tree, level by level. Assumes nothing.
 use mathlib.Core.Path.{_≡_, sym, ap, _∙_}
 use Prim.Native.Nat.{ℕ, suc, _+_, _-_, _≤_, zero-le}
 use native.Mathlib.Omega.{arith}
 use lib.ListN.{length}
 use Rattle.memory_map.specs.Map.{levelStart, arrayLength}
 use Rattle.memory_map.proofs.Laws.{level-mono, cells-shadow}
-use Rattle.format.specs.Front.{freshFront}
-use Rattle.format.proofs.Fronts.{resized, front-none, front-all}
-use Rattle.format.proofs.put_tree.Statement.{statement}
-use Rattle.format.proofs.put_tree.Tie as tie
+use Rattle.fresh_tree.specs.Front.{freshFront}
+use Rattle.fresh_tree.proofs.Fronts.{resized, front-none, front-all}
+use Rattle.fresh_tree.proofs.put_tree.Statement.{statement}
+use Rattle.fresh_tree.proofs.put_tree.Tie as tie
 
 abbrev Inv-loop : tie.InvT-loop
 Inv-loop h keys array₀ l₀ array l = (l ≤ h) × ((array ≡ freshFront keys h (levelStart h (l + 1))) × (length array ≡ arrayLength h))

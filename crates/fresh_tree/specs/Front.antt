@@ -1,4 +1,4 @@
--- What the functions of format ask of their buffers, and how far the array is written. Assumes nothing.
+-- What the functions of the fresh tree ask of their buffers, and how far the array is written. Assumes nothing.
 use mathlib.Core.Path.{_≡_}
 use mathlib.Core.List.{List, _++_}
 use Prim.Native.Nat.{ℕ, _*_, _-_, _≤_}

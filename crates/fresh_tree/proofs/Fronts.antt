@@ -19,9 +19,8 @@ use Rattle.calls.specs.Path.{tagsFrom, childTags}
 use Rattle.calls.specs.Format.{freshNode, freshArray}
 use Rattle.call_laws.proofs.Fresh.{fresh-length, array-length}
 use Rattle.call_laws.proofs.FreshCells.{none, cell-stored, node-stored, front-zero, shadows-zero}
-use Rattle.call_laws.proofs.Judged.{here}
 use Rattle.call_laws.proofs.Tags.{tags-length, tags-agree, tags-snoc}
-use Rattle.format.specs.Front.{Sized, freshFront}
+use Rattle.fresh_tree.specs.Front.{Sized, freshFront}
 
 -- zeros without the first k
 drop-zeros : (k m : ℕ) → drop k (replicate {A = ℕ} (k + m) 0) ≡ replicate m 0
