@@ -19,8 +19,8 @@ use Rattle.cache.specs.Cache.{withSlot, cellContent}
 use Rattle.cache.proofs.Owners.{rest, none as past}
 use Rattle.node.proofs.Laws.{slot-put, cell-room}
 use Rattle.calls.specs.Recovery.{Rebuilt, rebuilt, damaged, forwardFrom, phaseByte, total, rebuildBlock, rebuildSlot, rebuildBlocks}
-use Rattle.recovery.specs.Rebuild.{Placed}
-use Rattle.recovery.proofs.Forward.{Forwarding, forwarding-fails, forwarding-all, forwarding-sum, forwarded}
+use Rattle.forwarding.specs.Rebuild.{Placed}
+use Rattle.forwarding.proofs.Forward.{Forwarding, forwarding-fails, forwarding-all, forwarding-sum, forwarded}
 
 -- the owners from slot s on, of n
 abbrev pub left : List ℕ → ℕ → ℕ → List ℕ

@@ -1,4 +1,4 @@
--- `recovery::put_node` meets its contract. Assumes nothing.
+-- `rebuilding::put_node` meets its contract. Assumes nothing.
 use mathlib.Core.Path.{ap, _∙_}
 use native.Mathlib.Omega.{arith}
 use borrow.Author.Needs.{needs}
@@ -7,9 +7,9 @@ use Rattle.memory_map.proofs.Laws.{index-small}
 use Rattle.slot_map.specs.Slots.{levelOf}
 use Rattle.cache.proofs.Laws.{slot-room}
 use Rattle.call_laws.proofs.Tags.{tags-length}
-use Rattle.recovery.proofs.Nodes.{level-some, level-below, node-put}
-use Rattle.recovery.proofs.put_node.Statement.{statement}
-use Rattle.recovery.proofs.put_node.Tie as tie
+use Rattle.rebuilding.proofs.Nodes.{level-some, level-below, node-put}
+use Rattle.rebuilding.proofs.put_node.Statement.{statement}
+use Rattle.rebuilding.proofs.put_node.Tie as tie
 
 abbrev start : tie.After-level-of → tie.Start
 start c = c .before .before .before .before

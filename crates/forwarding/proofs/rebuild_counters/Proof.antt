@@ -1,4 +1,4 @@
--- `recovery::rebuild_counters` goes through the slots, and through the lines of each. Assumes nothing.
+-- `forwarding::rebuild_counters` goes through the slots, and through the lines of each. Assumes nothing.
 use mathlib.Core.Path.{_≡_, refl, sym, ap, _∙_, subst}
 use mathlib.Core.Logic.{⊎-elim}
 use mathlib.Core.List.{List}
@@ -16,12 +16,12 @@ use Rattle.cache.specs.Cache.{cellContent}
 use Rattle.cache.proofs.Laws.{cell-length, slot-room}
 use Rattle.node.proofs.Laws.{cell-room}
 use Rattle.calls.specs.Recovery.{rebuilt}
-use Rattle.recovery.specs.Rebuild.{counted}
-use Rattle.recovery.proofs.Forward.{Forwarding, forwarding-none, forwarding-next, forwarded-ge, forwarded-le}
-use Rattle.recovery.proofs.Blocks.{Rebuilding, rebuilding-empty, rebuilding-fails, rebuilding-next, rebuilding-same}
-use Rattle.recovery.proofs.Blocks.{blocks-end, placed-node, page-lines}
-use Rattle.recovery.proofs.rebuild_counters.Statement.{statement}
-use Rattle.recovery.proofs.rebuild_counters.Tie as tie
+use Rattle.forwarding.specs.Rebuild.{counted}
+use Rattle.forwarding.proofs.Forward.{Forwarding, forwarding-none, forwarding-next, forwarded-ge, forwarded-le}
+use Rattle.forwarding.proofs.Blocks.{Rebuilding, rebuilding-empty, rebuilding-fails, rebuilding-next, rebuilding-same}
+use Rattle.forwarding.proofs.Blocks.{blocks-end, placed-node, page-lines}
+use Rattle.forwarding.proofs.rebuild_counters.Statement.{statement}
+use Rattle.forwarding.proofs.rebuild_counters.Tie as tie
 
 abbrev Inv-loop : tie.InvT-loop
 Inv-loop h array image owners sum₀ s owner page block minors₀ j₀ sum minors j =

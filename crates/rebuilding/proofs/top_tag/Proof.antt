@@ -1,4 +1,4 @@
--- `recovery::top_tag` meets its contract. Assumes nothing.
+-- `rebuilding::top_tag` meets its contract. Assumes nothing.
 use mathlib.Core.Path.{ap, _∙_}
 use mathlib.Core.List.{List}
 use Prim.Native.Nat.{ℕ}
@@ -6,8 +6,8 @@ use lib.ListN.{length}
 use Rattle.memory_map.proofs.Laws.{top-node}
 use Rattle.tag.specs.Tag.{nodeTag}
 use Rattle.node.proofs.Laws.{current-length}
-use Rattle.recovery.proofs.top_tag.Statement.{statement}
-use Rattle.recovery.proofs.top_tag.Tie as tie
+use Rattle.rebuilding.proofs.top_tag.Statement.{statement}
+use Rattle.rebuilding.proofs.top_tag.Tie as tie
 
 current-requires : tie.Need-current-requires
 current-requires c κs = let s = c .before .before .before in (s .pre .1, top-node (s .args .h))

@@ -1,4 +1,4 @@
--- `recovery::child_tags` stores the tags of the eight children, one by one. Assumes nothing.
+-- `rebuilding::child_tags` stores the tags of the eight children, one by one. Assumes nothing.
 use mathlib.Core.Path.{_≡_, sym, ap, _∙_}
 use Prim.Native.Nat.{_+_, _-_, _*_, _≤_, _<_, zero-le}
 use native.Mathlib.Omega.{arith}
@@ -8,9 +8,9 @@ use Rattle.memory_map.specs.Map.Item.{node}
 use Rattle.memory_map.proofs.Laws.{child-node, index-small}
 use Rattle.cache.specs.Cache.{current}
 use Rattle.node.proofs.Laws.{current-length}
-use Rattle.recovery.proofs.Nodes.{Tagged, tagged-none, tagged-next, tagged-all}
-use Rattle.recovery.proofs.child_tags.Statement.{statement}
-use Rattle.recovery.proofs.child_tags.Tie as tie
+use Rattle.rebuilding.proofs.Nodes.{Tagged, tagged-none, tagged-next, tagged-all}
+use Rattle.rebuilding.proofs.child_tags.Statement.{statement}
+use Rattle.rebuilding.proofs.child_tags.Tie as tie
 
 abbrev Inv-loop : tie.InvT-loop
 Inv-loop h keys array image l i out₀ k₀ out k = (k ≤ 8) × Tagged keys l (current h array image l) i out₀ out k

@@ -18,7 +18,7 @@ use Rattle.cache.proofs.Owners.{none}
 use Rattle.calls.specs.Path.{tagsFrom, childTags}
 use Rattle.calls.specs.Recovery.{rebuildNode, rebuildNodes}
 use Rattle.call_laws.proofs.Tags.{tags-length, tags-snoc}
-use Rattle.recovery.proofs.Blocks.{left, left-next}
+use Rattle.forwarding.proofs.Blocks.{left, left-next}
 
 -- the tags of the first k children, whose contents f tells, are stored in s
 pub record Tagged (keys : List ℕ) (l : ℕ) (f : ℕ → List ℕ) (i : ℕ) (o s : List ℕ) (k : ℕ) : Type 0 where

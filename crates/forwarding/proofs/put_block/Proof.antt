@@ -1,4 +1,4 @@
--- `recovery::put_block` meets its contract. Assumes nothing.
+-- `forwarding::put_block` meets its contract. Assumes nothing.
 use mathlib.Core.Path.{ap, _∙_}
 use mathlib.Core.List.{List}
 use Prim.Native.Nat.{ℕ, _+_, _*_}
@@ -7,9 +7,9 @@ use borrow.Author.Needs.{needs}
 use lib.ListN.{set, length-set}
 use Rattle.words.specs.Bytes.{put}
 use Rattle.counter.specs.Counter.{counterBlock}
-use Rattle.recovery.proofs.Blocks.{block-put}
-use Rattle.recovery.proofs.put_block.Statement.{statement}
-use Rattle.recovery.proofs.put_block.Tie as tie
+use Rattle.forwarding.proofs.Blocks.{block-put}
+use Rattle.forwarding.proofs.put_block.Statement.{statement}
+use Rattle.forwarding.proofs.put_block.Tie as tie
 
 mul-at : tie.Need-mul-at
 mul-at c = search needs

@@ -1,8 +1,8 @@
--- `recovery::forwarded` meets its contract. Assumes nothing.
+-- `forwarding::forwarded` meets its contract. Assumes nothing.
 use borrow.Author.Needs.{needs}
-use Rattle.recovery.proofs.Forward.{phase-out, minor-out, minor-in}
-use Rattle.recovery.proofs.forwarded.Statement.{statement}
-use Rattle.recovery.proofs.forwarded.Tie as tie
+use Rattle.forwarding.proofs.Forward.{phase-out, minor-out, minor-in}
+use Rattle.forwarding.proofs.forwarded.Statement.{statement}
+use Rattle.forwarding.proofs.forwarded.Tie as tie
 
 returns : tie.Need-returns
 returns c = let a = c .before .args in phase-out (a .minor) (a .phase) (c .if1 .taken)

@@ -1,4 +1,4 @@
--- `recovery::rebuild_nodes` goes through the slots of the nodes. Assumes nothing.
+-- `rebuilding::rebuild_nodes` goes through the slots of the nodes. Assumes nothing.
 use mathlib.Core.Path.{_≡_, refl, sym, ap, _∙_}
 use mathlib.Core.Logic.{⊎-elim}
 use Prim.Native.Nat.{ℕ, _-_, _≤_, _<_}
@@ -8,10 +8,10 @@ use borrow.Author.Needs.{needs}
 use lib.ListN.{length}
 use Rattle.memory_map.specs.Map.{slots}
 use Rattle.memory_map.proofs.Laws.{slots-small}
-use Rattle.recovery.proofs.Blocks.{placed-node, filled}
-use Rattle.recovery.proofs.Nodes.{Renewing, renewing-next, renewing-empty, renewing-all, nodesFrom}
-use Rattle.recovery.proofs.rebuild_nodes.Statement.{statement}
-use Rattle.recovery.proofs.rebuild_nodes.Tie as tie
+use Rattle.forwarding.proofs.Blocks.{placed-node, filled}
+use Rattle.rebuilding.proofs.Nodes.{Renewing, renewing-next, renewing-empty, renewing-all, nodesFrom}
+use Rattle.rebuilding.proofs.rebuild_nodes.Statement.{statement}
+use Rattle.rebuilding.proofs.rebuild_nodes.Tie as tie
 
 abbrev Inv-loop : tie.InvT-loop
 Inv-loop h keys array image₀ owners n s₀ image s = Renewing h keys array owners n image₀ image s

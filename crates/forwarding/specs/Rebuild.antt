@@ -1,4 +1,4 @@
--- What the functions of recovery ask of the owners, and what bringing the counters forward tells. Assumes nothing.
+-- What rebuilding asks of the owners, and what bringing the counters forward tells. Assumes nothing.
 use mathlib.Core.Path.{_≡_}
 use mathlib.Core.Bool.{true}
 use mathlib.Core.List.{List}
@@ -7,8 +7,8 @@ use lib.ListN.{getD}
 use Rattle.memory_map.specs.Map.{slots}
 use Rattle.slot_map.specs.Slots.{belongs}
 use Rattle.calls.specs.Recovery.{Rebuilt, rebuilt, damaged}
-use Rattle.recovery.specs.declared.Counters.{Counters}
-use Rattle.recovery.specs.declared.Counters.the-variants.{Damaged, Sum}
+use Rattle.forwarding.specs.declared.Counters.{Counters}
+use Rattle.forwarding.specs.declared.Counters.the-variants.{Damaged, Sum}
 
 -- each owner, an index + 1, belongs to its slot
 pub record Placed (h : ℕ) (os : List ℕ) : Type 0 where
