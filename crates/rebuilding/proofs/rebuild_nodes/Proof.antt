@@ -2,7 +2,6 @@
 use mathlib.Core.Path.{_≡_, refl, sym, ap, _∙_}
 use mathlib.Core.Logic.{⊎-elim}
 use Prim.Native.Nat.{ℕ, _-_, _≤_, _<_}
-use native.Mathlib.Nat.{le-refl}
 use native.Mathlib.Omega.{arith}
 use borrow.Author.Needs.{needs}
 use lib.ListN.{length}
@@ -32,7 +31,7 @@ slots-requires c κs = let z = c .before .before .before .pre .1 .0 in (z .deep,
 
 loop-holds : tie.Need-loop-holds Inv-loop μ-loop
 unfolding slots
-loop-holds c = record { least = le-refl 4; most = omega (arith, c .slots .ensures); full = start c .pre .1 .0 .cache; rest = refl }
+loop-holds c = record { least = omega arith; most = omega (arith, c .slots .ensures); full = start c .pre .1 .0 .cache; rest = refl }
 
 mul-owner : tie.Need-mul-owner Inv-loop μ-loop
 mul-owner c = omega (arith, fits (c .before .before))
