@@ -25,7 +25,7 @@ use Rattle.memory_map.specs.Map.Item.{node}
 use Rattle.slot_map.proofs.Laws.{slot-within, level-slot, belongs-node}
 use Rattle.cache.specs.Cache.{owner, dirty, content, withSlot, emptyCache, cellContent, from, cacheOwners, topSlot, stray, anyOwner}
 use Rattle.cache.specs.Cache.{missingTop, orElse, badSlot, flagsFormed, isNothing, formed, holds, current}
-use Rattle.cache.proofs.Steps.{place-empty, place-filled, flag-empty, flag-filled}
+use Rattle.cache.proofs.Owners.{place-empty, place-filled, flag-empty, flag-filled}
 use Rattle.cache.specs.declared.Found.{Found}
 use Rattle.cache.specs.declared.Found.the-variants.{Nothing, At}
 

@@ -1,3 +1,3 @@
+pub mod Owners
 pub mod Laws
 pub mod Levels
-pub mod Steps

@@ -1,21 +1,10 @@
-// The cache's slots, the shadow of their owners in the array, and whether each is formed.
+// The cache's slots, and whether the cache is formed.
 ghost use mathlib.Core.Path.{_≡_};
 ghost use mathlib.Core.Bool.{not};
-ghost use Prim.Native.Nat.{_+_, _*_, _<_, _≤_};
-ghost use lib.ListN.{length, take};
-ghost use Rattle.words.specs.Bytes.{fromLe, part};
-ghost use Rattle.memory_map.specs.Map.{arrayLength, slots as slotsOf};
+ghost use Prim.Native.Nat.{_+_, _*_, _≤_};
+ghost use lib.ListN.{length};
 ghost use Rattle.slot_map.specs.Slots.{cacheLength};
-ghost use Rattle.cache.specs.Cache.{
-  from,
-  shadowOwners,
-  stray,
-  anyOwner,
-  badSlot,
-  owner as ownerOf,
-  dirty as dirtyOf,
-  formed as isFormed,
-};
+ghost use Rattle.cache.specs.Cache.{from, anyOwner, owner as ownerOf, dirty as dirtyOf, formed as isFormed};
 ghost use Rattle.cache.specs.Fits.{fits, allFit};
 use memory_map::slots;
 use words::load64;
@@ -39,74 +28,6 @@ pub fn dirty(cache: &[u8], s: usize) -> u8
     ensures { λ r. ⌜ r ≡ dirtyOf (now (cache .entry)) s ⌝ }
 {
     cache[73 * s + 8]
-}
-
-// The owners that stand at an index and at each step after it, n of them.
-fn owners_at(bytes: &[u8], first: usize, step: usize, n: usize) -> [u64; 10]
-    requires { ⌜ (n ≤ 10) × ((8 ≤ step) × (first + step * n ≤ length (now bytes))) ⌝ }
-    ensures { λ r. ⌜ take n r ≡ from (λ s. fromLe (part (now (bytes .entry)) (first + step * s) 8)) 0 n ⌝ }
-{
-    let mut owners = [0u64; 10];
-    let mut at = first;
-    let mut s = 0;
-    while s < n {
-        owners[s] = load64(bytes, at);
-        at += step;
-        s += 1;
-    }
-    owners
-}
-
-// The first slot whose owner is not 0 and does not belong there.
-fn first_stray(h: usize, owners: [u64; 10]) -> Found
-    requires { ⌜ (1 ≤ h) × (h ≤ 3) ⌝ }
-    ensures { λ r. ⌜ r ≡ stray h 0 (take (slotsOf h) owners) ⌝ }
-{
-    let n = slots(h);
-    let mut s = 0;
-    while s < n {
-        let o = owners[s] as usize;
-        if o != 0 {
-            if !slot_map::belongs(h, s, o) {
-                return Found::At(s);
-            }
-        }
-        s += 1;
-    }
-    Found::Nothing
-}
-
-fn any_owner(n: usize, owners: [u64; 10]) -> bool
-    requires { ⌜ n ≤ 10 ⌝ }
-    ensures { λ r. ⌜ r ≡ anyOwner (take n owners) ⌝ }
-{
-    let mut s = 0;
-    while s < n {
-        if owners[s] != 0 {
-            return true;
-        }
-        s += 1;
-    }
-    false
-}
-
-// The slot that keeps owners from being formed; of the shadow's, refusal 27 tells it.
-pub fn bad_slot(h: usize, owners: [u64; 10]) -> Found
-    requires { ⌜ (1 ≤ h) × (h ≤ 3) ⌝ }
-    ensures { λ r. ⌜ r ≡ badSlot h (take (slotsOf h) owners) ⌝ }
-{
-    let found = first_stray(h, owners);
-    if let Found::At(s) = found {
-        return Found::At(s);
-    }
-    let top = slot_map::slot_of(h, 0);
-    if owners[top] != 0 {
-        return Found::Nothing;
-    }
-    if any_owner(slots(h), owners) {
-        return Found::At(top);
-    }
-    Found::Nothing
 }
 
 // Whether a slot of level l, which has so many nodes, is empty and clean, or has one of them that may take it.
@@ -177,12 +98,4 @@ pub fn formed(h: usize, cache: &[u8]) -> bool
         return true;
     }
     all_empty(cache, slots(h))
-}
-
-// The owners that the shadow lists.
-pub fn shadow_owners(h: usize, array: &[u8]) -> [u64; 10]
-    requires { ⌜ (1 ≤ h) × ((h ≤ 3) × (length (now array) ≡ arrayLength h)) ⌝ }
-    ensures { λ r. ⌜ take (slotsOf h) r ≡ shadowOwners h (now (array .entry)) ⌝ }
-{
-    owners_at(array, 72 * memory_map::shadow_cell(h, 0), 72, slots(h))
 }

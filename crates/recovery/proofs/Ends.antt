@@ -24,7 +24,7 @@ use Rattle.journal.proofs.Laws.{length-finish, pending-some, pending-none, less
 use Rattle.calls.specs.Call.{Module, Called, buffers, ended, refuse, mediaOf, withMedia}
 use Rattle.calls.specs.Recovery.{Rebuilt, rebuilt, damaged, rebuildBlocks, rebuildNodes, refuseAfter, recoveryRefusal, recover}
 use Rattle.calls.specs.Recovery.{recoverRoot, recoverRebuilt, recoverShadow, recoverMedia, recoverJudged}
-use Rattle.recovery.specs.Rebuild.{Placed}
+use Rattle.forwarding.specs.Rebuild.{Placed}
 
 -- ---- the cache rebuilt
 

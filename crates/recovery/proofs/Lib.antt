@@ -1,4 +1,1 @@
-pub mod Forward
-pub mod Blocks
-pub mod Nodes
 pub mod Ends

@@ -12,8 +12,8 @@ use Rattle.cache.specs.Cache.{current}
 use Rattle.node.specs.Sized.{Sized}
 use Rattle.calls.specs.Call.{Module, buffers}
 use Rattle.calls.specs.Recovery.{rebuildBlocks, rebuildNodes}
-use Rattle.recovery.specs.Rebuild.{Placed, counted}
-use Rattle.recovery.specs.declared.Counters.{Counters}
+use Rattle.forwarding.specs.Rebuild.{Placed, counted}
+use Rattle.forwarding.specs.declared.Counters.{Counters}
 use Rattle.recovery.proofs.Ends.{ends-damaged, ends-differs, ends-done}
 use Rattle.recovery.proofs.rebuild.Statement.{statement}
 use Rattle.recovery.proofs.rebuild.Tie as tie

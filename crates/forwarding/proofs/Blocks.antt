@@ -1,0 +1,162 @@
+-- Counter slots rebuilt one by one. Assumes nothing.
+use mathlib.Core.Path.{_≡_, refl, sym, ap, ap₂, _∙_}
+use mathlib.Core.List.{List, _∷_}
+use mathlib.Core.Option.{Option, none, some}
+use Prim.Native.Nat.{ℕ, zero, suc, _+_, _-_, _*_, _≤_, _<_}
+use native.Mathlib.Numerals.{add-one}
+use native.Mathlib.Omega.{arith}
+use lib.ListN.{length, getD, set, take, drop}
+use lib.Seq.{take-all}
+use Rattle.words.specs.Bytes.{toLe, put}
+use Rattle.memory_map.specs.Map.{InMap, cellOf, slots, lines, levelStart, arrayLength}
+use Rattle.memory_map.specs.Map.Item.{node}
+use Rattle.memory_map.proofs.Laws.{in-map-node, nodes-bottom, node-cell}
+use Rattle.slot_map.specs.Slots.{levelOf, cacheLength}
+use Rattle.slot_map.proofs.Laws.{belongs-node, level-within}
+use Rattle.counter.specs.Counter.{major, minors, counterBlock}
+use Rattle.counter.proofs.Laws.{length-counterBlock}
+use Rattle.cache.specs.Cache.{withSlot, cellContent}
+use Rattle.cache.proofs.Owners.{rest, none as past}
+use Rattle.node.proofs.Laws.{slot-put, cell-room}
+use Rattle.calls.specs.Recovery.{Rebuilt, rebuilt, damaged, forwardFrom, phaseByte, total, rebuildBlock, rebuildSlot, rebuildBlocks}
+use Rattle.forwarding.specs.Rebuild.{Placed}
+use Rattle.forwarding.proofs.Forward.{Forwarding, forwarding-fails, forwarding-all, forwarding-sum, forwarded}
+
+-- the owners from slot s on, of n
+abbrev pub left : List ℕ → ℕ → ℕ → List ℕ
+left os n s = drop s (take n os)
+
+pub left-next : (os : List ℕ) (n s : ℕ) → s < n → n ≤ length os → left os n s ≡ getD os s 0 ∷ left os n (s + 1)
+left-next os n s p q = rest os n s p q ∙ ap (λ (k : ℕ). getD os s 0 ∷ drop k (take n os)) (sym (add-one s))
+
+-- a block written into a slot
+pub block-put : (c : List ℕ) (s o d m : ℕ) (ms : List ℕ) → 73 * s + 73 ≤ length c
+    → put (set (put c (73 * s) (toLe 8 o)) (73 * s + 8) d) (73 * s + 9) (counterBlock m ms) ≡ withSlot c s o d (counterBlock m ms)
+block-put c s o d m ms h =
+    let full = length-counterBlock m ms in
+    ap (put (set (put c (73 * s) (toLe 8 o)) (73 * s + 8) d) (73 * s + 9)) (sym (take-all 64 (counterBlock m ms) (omega arith)))
+    ∙ slot-put c s o d (counterBlock m ms) h full
+
+-- an owner is a node of its slot's level
+pub placed-node : (h : ℕ) (os : List ℕ) → Placed h os → (s o : ℕ) → s < slots h → o ≡ getD os s 0 → (o ≡ 0 → ⊥)
+    → InMap h (node (levelOf s) (o - 1))
+unfolding InMap
+placed-node h os f s zero p e q = absurd (q refl)
+placed-node h os f s (suc i) p e q =
+    let at = belongs-node h s i (f .belong s i p (sym e)) in
+    let same : suc i - 1 ≡ i = omega arith in
+    (level-within h s p, rw same (at .0))
+
+-- the lines of a page of the map, and a cell behind them
+pub page-lines : (h : ℕ) (a : List ℕ) (p : ℕ) → length a ≡ arrayLength h → InMap h (node 0 p) → 72 * (64 * p + 65) ≤ length a
+unfolding lines levelStart
+page-lines h a p size m = omega (arith, cell-room h a 0 p size m, node-cell h 0 p, in-map-node h 0 p m .1, nodes-bottom h)
+
+-- an owner that is not 0
+pub filled : (o : ℕ) → (o ≡ 0 → ⊥) → o ≡ suc (o - 1)
+filled o p = omega arith
+
+module _ (h : ℕ) (a os : List ℕ) where
+  abbrev owner : ℕ → ℕ
+  owner s = getD os s 0
+
+  -- what is left to do after a slot
+  abbrev onward : ℕ → List ℕ → Rebuilt → Rebuilt
+  onward s os r = elim r as (λ z. Rebuilt) [ damaged ↦ damaged | rebuilt d t ↦ rebuildBlocks h a s os d t ]
+
+  -- and from slot s on
+  abbrev pub blocksFrom : ℕ → List ℕ → ℕ → Rebuilt
+  blocksFrom s c sum = rebuildBlocks h a s (left os 4 s) c sum
+
+  -- the counter slots before s are rebuilt, from the cache first: c with what is told so far
+  pub record Rebuilding (first c : List ℕ) (sum s : ℕ) : Type 0 where
+    pub most : s ≤ 4
+    pub few : sum ≤ 192 * s
+    pub full : length c ≡ cacheLength h
+    pub rest : blocksFrom 0 first 0 ≡ blocksFrom s c sum
+
+  pub rebuilding-same : {first c d : List ℕ} {sum t s : ℕ} → Rebuilding first c sum s → d ≡ c → t ≡ sum → Rebuilding first d t s
+  rebuilding-same {first} {c} {d} {sum} {t} {s} r e f =
+      record {
+        most = r .most;
+        few = omega (arith, r .few);
+        full = ap length e ∙ r .full;
+        rest = r .rest ∙ sym (ap₂ {C = Rebuilt} (blocksFrom s) e f);
+      }
+
+  pub blocks-end : (s : ℕ) → 4 ≤ s → (c : List ℕ) (sum : ℕ) → blocksFrom s c sum ≡ rebuilt c sum
+  unfolding rebuildBlocks
+  blocks-end s p c sum = rw (past os 4 s p)
+
+  module _ (size : length os ≡ 10) where
+    module _ (s : ℕ) (p : s < 4) (c : List ℕ) (sum : ℕ) where
+      slot-then : {r : Rebuilt} → rebuildSlot h a c sum s (owner s) ≡ r → blocksFrom s c sum ≡ onward (suc s) (left os 4 (s + 1)) r
+      unfolding rebuildBlocks
+      slot-then {r} e =
+          ap (λ (l : List ℕ). rebuildBlocks h a s l c sum) (left-next os 4 s p (omega arith))
+          ∙ ap (onward (suc s) (left os 4 (s + 1))) e
+
+      slot-first : {d : List ℕ} {t : ℕ} → rebuildSlot h a c sum s (owner s) ≡ rebuilt d t → blocksFrom s c sum ≡ blocksFrom (s + 1) d t
+      slot-first {d} {t} e = slot-then e ∙ ap (λ (k : ℕ). rebuildBlocks h a k (left os 4 (s + 1)) d t) (sym (add-one s))
+
+      slot-ends : rebuildSlot h a c sum s (owner s) ≡ damaged → blocksFrom s c sum ≡ damaged
+      slot-ends e = slot-then e
+
+      pub blocks-empty : owner s ≡ 0 → blocksFrom s c sum ≡ blocksFrom (s + 1) c sum
+      unfolding rebuildSlot
+      blocks-empty e = slot-first (ap (rebuildSlot h a c sum s) e)
+
+      -- a filled slot: the owner's block b, and the minors ms of this
+      module _ (some· : owner s ≡ 0 → ⊥) {b ms : List ℕ} (u : b ≡ cellContent a (cellOf h (node 0 (owner s - 1))))
+          (w : ms ≡ minors b) where
+        block : rebuildSlot h a c sum s (owner s) ≡ rebuildBlock h a c sum s (owner s - 1)
+        unfolding rebuildSlot
+        block = ap (rebuildSlot h a c sum s) (filled (owner s) some·)
+
+        as-minors : ms ≡ minors (cellContent a (cellOf h (node 0 (owner s - 1))))
+        as-minors = w ∙ ap minors u
+
+        as-forward : {r : Option (List ℕ)} → forwardFrom a (64 * (owner s - 1)) ms ≡ r
+            → forwardFrom a (64 * (owner s - 1)) (minors (cellContent a (cellOf h (node 0 (owner s - 1))))) ≡ r
+        as-forward f = ap (forwardFrom a (64 * (owner s - 1))) (sym as-minors) ∙ f
+
+        blocks-damaged : forwardFrom a (64 * (owner s - 1)) ms ≡ none → blocksFrom s c sum ≡ damaged
+        unfolding rebuildBlock
+        blocks-damaged f = slot-ends (block ∙ rw (rebuildBlock, as-forward f))
+
+        blocks-next : {cur d : List ℕ} {t ma : ℕ} → forwardFrom a (64 * (owner s - 1)) ms ≡ some cur → t ≡ sum + (total cur - total ms)
+            → ma ≡ major b → d ≡ withSlot c s (owner s) 1 (counterBlock ma cur) → blocksFrom s c sum ≡ blocksFrom (s + 1) d t
+        unfolding rebuildBlock
+        blocks-next {cur} {d} {t} {ma} f g m z =
+            let cell = cellContent a (cellOf h (node 0 (owner s - 1))) in
+            let slot : withSlot c s (suc (owner s - 1)) 1 (counterBlock (major cell) cur) ≡ d =
+            ap₂ {C = List ℕ} (λ (k i : ℕ). withSlot c s k 1 (counterBlock i cur)) (sym (filled (owner s) some·)) (sym (m ∙ ap major u))
+            ∙ sym z in
+            let told : sum + (total cur - total (minors cell)) ≡ t =
+            ap (λ (x : List ℕ). sum + (total cur - total x)) (sym as-minors) ∙ sym g in
+            slot-first (block ∙ rw (rebuildBlock, as-forward f) (ap₂ {C = Rebuilt} rebuilt slot told))
+
+    module _ {first c : List ℕ} {sum s : ℕ} (r : Rebuilding first c sum s) (p : s < 4) where
+      pub rebuilding-empty : owner s ≡ 0 → Rebuilding first c sum (s + 1)
+      rebuilding-empty e =
+          record { most = omega arith; few = omega (arith, r .few); full = r .full; rest = r .rest ∙ blocks-empty s p c sum e }
+
+      -- the owner's block b lies in cell n, and its minors ms are brought forward in cur
+      module _ (some· : owner s ≡ 0 → ⊥) {n : ℕ} {b ms cur : List ℕ} {j t : ℕ} (cell : n ≡ cellOf h (node 0 (owner s - 1)))
+          (block : b ≡ cellContent a n) (unpacked : ms ≡ minors b) (f : Forwarding a (64 * (owner s - 1)) ms sum cur j t) where
+        pub rebuilding-fails : j < 64 → {v : ℕ} → v ≡ forwarded (getD cur j 0) (phaseByte a (64 * (owner s - 1) + j)) → 128 ≤ v
+            → damaged ≡ blocksFrom 0 first 0
+        rebuilding-fails q e z =
+            sym (r .rest ∙ blocks-damaged s p c sum some· (block ∙ ap (cellContent a) cell) unpacked
+            (forwarding-fails a (64 * (owner s - 1)) ms sum f q e z))
+
+        pub rebuilding-next : j ≤ 64 → 64 ≤ j → {ma : ℕ} {d : List ℕ} → ma ≡ major b
+            → d ≡ withSlot c s (owner s) 1 (counterBlock ma cur) → length d ≡ length c → Rebuilding first d t (s + 1)
+        rebuilding-next q all m e l =
+            record {
+              most = omega arith;
+              few = omega (arith, r .few, f .least);
+              full = l ∙ r .full;
+              rest = r .rest ∙ blocks-next s p c sum some· (block ∙ ap (cellContent a) cell) unpacked
+                  (forwarding-all a (64 * (owner s - 1)) ms sum f all) (forwarding-sum a (64 * (owner s - 1)) ms sum f) m e;
+            }
