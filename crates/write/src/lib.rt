@@ -121,7 +121,7 @@ fn put_path(
     if missing == 0 {
         return 0;
     }
-    path::gather(h, cache, p, control, allowance)
+    loading::gather(h, cache, p, control, allowance)
 }
 
 // Stages the counter block behind n cells where its new minor is a multiple of 4, and tells how many cells there then are.
@@ -217,7 +217,7 @@ fn load_missing(h: usize, array: &[u8], p: usize, missing: u64, cache: &mut [u8]
     if missing == 0 {
         return;
     }
-    path::load(h, array, p, cache);
+    loading::load(h, array, p, cache);
 }
 
 // The flag of a counter block's slot: clean where the block is stored.

@@ -1,4 +1,4 @@
--- `read::settle` meets its contract. Assumes nothing.
+-- `loading::settle` meets its contract. Assumes nothing.
 use mathlib.Core.Path.{_≡_, _∙_}
 use Prim.Native.Nat.{suc, _≤_}
 use native.Mathlib.Omega.{arith}
@@ -8,9 +8,9 @@ use Rattle.journal.proofs.Steps.{Ran}
 use Rattle.call_laws.specs.Walk.{missing, pathCells}
 use Rattle.call_laws.proofs.Staged.{Staged, staged-inside}
 use Rattle.path.proofs.Ready.{Ready, few}
-use Rattle.read.proofs.Laws.{settle-none, settling, settle-cut, settle-done}
-use Rattle.read.proofs.settle.Statement.{statement}
-use Rattle.read.proofs.settle.Tie as tie
+use Rattle.loading.proofs.Settling.{settle-none, settling, settle-cut, settle-done}
+use Rattle.loading.proofs.settle.Statement.{statement}
+use Rattle.loading.proofs.settle.Tie as tie
 
 -- past the entry: what is lent
 abbrev start : tie.After-slice-known3 → tie.Start

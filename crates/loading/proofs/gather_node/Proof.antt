@@ -1,4 +1,4 @@
--- `path::gather_node` meets its contract. Assumes nothing.
+-- `loading::gather_node` meets its contract. Assumes nothing.
 use mathlib.Core.Path.{_≡_, sym, ap, _∙_, subst}
 use Prim.Native.Nat.{ℕ, _+_, _-_, _*_, _<_, _≤_}
 use native.Mathlib.Omega.{arith}
@@ -13,9 +13,9 @@ use Rattle.cache.specs.Cache.{owner, dirty}
 use Rattle.cache.proofs.Laws.{formed-facts, dirty-owner, content-length}
 use Rattle.node.proofs.Laws.{Slotted, slotted}
 use Rattle.call_laws.specs.Walk.{nodeCells}
-use Rattle.path.proofs.Laws.{gathered-clean, gathered-dirty, cells-some, cells-dirty}
-use Rattle.path.proofs.gather_node.Statement.{statement}
-use Rattle.path.proofs.gather_node.Tie as tie
+use Rattle.loading.proofs.Laws.{gathered-clean, gathered-dirty, cells-some, cells-dirty}
+use Rattle.loading.proofs.gather_node.Statement.{statement}
+use Rattle.loading.proofs.gather_node.Tie as tie
 
 placed : (c : tie.Start) → Slotted (c .args .h) (c .args .l) (c .args .i) (c .args .cache .now)
 placed c = slotted _ _ _ _ (c .pre .0 .1 .0) (c .pre .0 .1 .1 .0) (c .pre .0 .1 .1 .1 .1)

@@ -1,4 +1,4 @@
--- `path::gather` meets its contract. Assumes nothing.
+-- `loading::gather` meets its contract. Assumes nothing.
 use mathlib.Core.Path.{_≡_, refl, sym, ap, _∙_, subst}
 use Prim.Native.Nat.{ℕ, _+_, _-_, _≤_}
 use native.Mathlib.Omega.{arith}
@@ -10,9 +10,9 @@ use Rattle.memory_map.proofs.Laws.{path-node}
 use Rattle.cache.specs.Cache.{holds}
 use Rattle.node.proofs.Laws.{Slotted, slotted}
 use Rattle.call_laws.specs.Walk.{nodeCells}
-use Rattle.path.proofs.Laws.{Gathering, gathering-none, gathering-room, gathering-held, gathering-more, gathering-all}
-use Rattle.path.proofs.gather.Statement.{statement}
-use Rattle.path.proofs.gather.Tie as tie
+use Rattle.loading.proofs.Laws.{Gathering, gathering-none, gathering-room, gathering-held, gathering-more, gathering-all}
+use Rattle.loading.proofs.gather.Statement.{statement}
+use Rattle.loading.proofs.gather.Tie as tie
 
 abbrev Inv-loop : tie.InvT-loop
 Inv-loop h cache p control₀ allowance k₀ n₀ control k n =

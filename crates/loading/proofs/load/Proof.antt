@@ -1,4 +1,4 @@
--- `path::load` meets its contract. Assumes nothing.
+-- `loading::load` meets its contract. Assumes nothing.
 use mathlib.Core.Path.{_≡_, sym, ap, _∙_, subst}
 use mathlib.Core.Bool.{Bool, true, false}
 use Prim.Native.Nat.{ℕ, _-_}
@@ -11,9 +11,9 @@ use Rattle.memory_map.proofs.Laws.{path-node}
 use Rattle.cache.specs.Cache.{holds, cellContent}
 use Rattle.cache.proofs.Laws.{cell-length}
 use Rattle.node.proofs.Laws.{Slotted, slotted, cell-room}
-use Rattle.path.proofs.Laws.{Loading, loading-none, loading-held, loading-more, loading-all}
-use Rattle.path.proofs.load.Statement.{statement}
-use Rattle.path.proofs.load.Tie as tie
+use Rattle.loading.proofs.Laws.{Loading, loading-none, loading-held, loading-more, loading-all}
+use Rattle.loading.proofs.load.Statement.{statement}
+use Rattle.loading.proofs.load.Tie as tie
 
 abbrev Inv-loop : tie.InvT-loop
 Inv-loop h array p cache₀ n₀ cache n = Loading h array p cache₀ cache n
