@@ -33,14 +33,9 @@ fn gather_node(
     ensures { λ r. ⌜ r ≡ n + length (nodeCells h (now (cache .entry)) l i) ⌝ }
 {
     let s = slot_map::slot_of(l, i);
+    let shadow = memory_map::shadow_cell(h, s);
     if cache::dirty(cache, s) != 1 {
-        batch::put_shadow(
-            control,
-            n,
-            allowance,
-            memory_map::shadow_cell(h, s),
-            i as u64 + 1,
-        );
+        batch::put_shadow(control, n, allowance, shadow, i as u64 + 1);
         return n + 1;
     }
     let former = cache::owner(cache, s) as usize - 1;
@@ -53,13 +48,7 @@ fn gather_node(
         content,
         0,
     );
-    batch::put_shadow(
-        control,
-        n + 1,
-        allowance,
-        memory_map::shadow_cell(h, s),
-        i as u64 + 1,
-    );
+    batch::put_shadow(control, n + 1, allowance, shadow, i as u64 + 1);
     n + 2
 }
 

@@ -4,8 +4,8 @@ use Prim.Native.Nat.{ℕ, _+_, _-_, _*_, _<_, _≤_}
 use native.Mathlib.Omega.{arith}
 use borrow.Author.Needs.{needs}
 use lib.ListN.{length}
-use Rattle.memory_map.specs.Map.{InMap}
-use Rattle.memory_map.specs.Map.Item.{node, shadow}
+use Rattle.memory_map.specs.Map.{InMap, slots}
+use Rattle.memory_map.specs.Map.Item.{node}
 use Rattle.memory_map.proofs.Laws.{in-map-node}
 use Rattle.slot_map.specs.Slots.{slotOf}
 use Rattle.slot_map.proofs.Laws.{slot-within}
@@ -29,22 +29,15 @@ start c = c .before .before .before
 room : (c : tie.After-slot-of) → 73 * c .slot-of .result + 73 ≤ length (start c .args .cache .now)
 room c = omega (arith, c .slot-of .ensures, placed (start c) .slot)
 
-shadowed : (c : tie.After-slot-of) → InMap (start c .args .h) (shadow (c .slot-of .result))
-unfolding InMap
-shadowed c =
+shadow-cell-requires : tie.Need-shadow-cell-requires
+unfolding InMap slots
+shadow-cell-requires c κs =
     let s = start c in
-    omega (
-      arith,
-      c .slot-of .ensures,
-      slot-within (s .args .h) (s .args .l) (s .args .i)
-          (in-map-node (s .args .h) (s .args .l) (s .args .i) (s .pre .0 .1 .1 .1 .1) .0),
-    )
+    let level = in-map-node (s .args .h) (s .args .l) (s .args .i) (s .pre .0 .1 .1 .1 .1) .0 in
+    (s .pre .0 .0, (s .pre .0 .1 .0, omega (arith, c .slot-of .ensures, slot-within (s .args .h) (s .args .l) (s .args .i) level)))
 
 dirty-requires : tie.Need-dirty-requires
-dirty-requires c κs = room c
-
-shadow-cell-requires : tie.Need-shadow-cell-requires
-shadow-cell-requires c κs = let at = c .before .before .before in (start at .pre .0 .0, (start at .pre .0 .1 .0, shadowed at))
+dirty-requires c κs = room (c .before)
 
 add-put-shadow : tie.Need-add-put-shadow
 add-put-shadow c = omega (arith, placed (start (c .before .before .before .before)) .word)
@@ -70,23 +63,27 @@ same-length c = search needs
 returns : tie.Need-returns
 returns c =
     let call = c .before .before in
-    let test = call .before .before .before in
-    let at = test .before .before in
+    let test = call .before .before in
+    let cell = test .before .before in
+    let at = cell .before in
     let s = start at in
     let g = gathered-clean (s .args .h) (s .args .cache .now) (s .args .l) (s .args .i) (s .pre .1 .0) (s .args .allowance)
     (s .args .control .now) (s .args .n) (at .slot-of .result) (at .slot-of .ensures)
-    (λ e. test .if1 .taken (test .before .dirty .ensures ∙ e)) (call .put-shadow .last .0) (call .before .shadow-cell .result)
-    (call .before .shadow-cell .ensures) (call .put-shadow .ensures) in
+    (λ e. test .if1 .taken (test .before .dirty .ensures ∙ e)) (call .put-shadow .last .0) (cell .shadow-cell .result)
+    (cell .shadow-cell .ensures) (call .put-shadow .ensures) in
     (g .cells, g .number)
 
 owner-requires : tie.Need-owner-requires
-owner-requires c κs = room (c .before .before)
+owner-requires c κs = room (c .before .before .before)
 
 -- the slot is dirty: its owner is a node, and two cells come
+abbrev begin : tie.Else1 → tie.Start
+begin c = start (c .before .before .before)
+
 former : (c : tie.After-owner) → (0 < c .owner .result)
-    × InMap (start (c .before .before .before) .args .h) (node (start (c .before .before .before) .args .l) (c .owner .result - 1))
+    × InMap (begin (c .before) .args .h) (node (begin (c .before) .args .l) (c .owner .result - 1))
 former c =
-    let at = c .before .before .before in
+    let at = c .before .before .before .before in
     let s = start at in
     let a = s .args in
     let e : c .owner .result ≡ owner (a .cache .now) (slotOf (a .l) (a .i)) = c .owner .ensures
@@ -97,11 +94,10 @@ former c =
     (dirty-owner (a .h) (a .cache .now) (a .l) (a .i) (formed-facts (a .h) (a .cache .now) (s .pre .0 .1 .1 .1 .0))
     (in-map-node (a .h) (a .l) (a .i) (s .pre .0 .1 .1 .1 .1) .0) d)
 
-two : (c : tie.Else1) → length
-    (nodeCells (start (c .before .before) .args .h) (start (c .before .before) .args .cache .now) (start (c .before .before) .args .l)
-    (start (c .before .before) .args .i)) ≡ 2
+two : (c : tie.Else1)
+    → length (nodeCells (begin c .args .h) (begin c .args .cache .now) (begin c .args .l) (begin c .args .i)) ≡ 2
 two c =
-    let at = c .before .before in
+    let at = c .before .before .before in
     let s = start at in
     cells-dirty (s .args .h) (s .args .cache .now) (s .args .l) (s .args .i) (s .pre .1 .0) (at .slot-of .result) (at .slot-of .ensures)
     (sym (c .before .dirty .ensures) ∙ c .if1 .left)
@@ -110,17 +106,17 @@ sub-former : tie.Need-sub-former
 sub-former c = former c .0
 
 in-slot-requires : tie.Need-in-slot-requires
-in-slot-requires c κs = room (c .before .before .before)
+in-slot-requires c κs = room (c .before .before .before .before)
 
 node-cell-requires : tie.Need-node-cell-requires
 node-cell-requires c κs =
-    let at = c .before .before in let s = start (at .before .before .before) in (s .pre .0 .0, (s .pre .0 .1 .0, former at .1))
+    let at = c .before .before in let s = start (at .before .before .before .before) in (s .pre .0 .0, (s .pre .0 .1 .0, former at .1))
 
 put-cell-requires : tie.Need-put-cell-requires
 put-cell-requires c κs =
     let slot = c .before .before in
     let test = slot .before .before in
-    let at = test .before .before in
+    let at = test .before .before .before in
     let s = start at in (
       s .pre .1 .1 .0,
       (
@@ -132,20 +128,15 @@ put-cell-requires c κs =
 add-put-shadow-2 : tie.Need-add-put-shadow-2
 add-put-shadow-2 c = search needs
 
-shadow-cell-requires-2 : tie.Need-shadow-cell-requires-2
-shadow-cell-requires-2 c κs =
-    let at = c .before .before .before .before .before .before .before .before .before .before in
-    (start at .pre .0 .0, (start at .pre .0 .1 .0, shadowed at))
-
 add-put-shadow-3 : tie.Need-add-put-shadow-3
 add-put-shadow-3 c =
     omega (arith, placed (start (c .before .before .before .before .before .before .before .before .before .before .before)) .word)
 
 put-shadow-requires-2 : tie.Need-put-shadow-requires-2
 put-shadow-requires-2 c κs =
-    let stored = c .before .before .before .before in
+    let stored = c .before .before .before in
     let test = stored .before .before .before .before .before in
-    let s = start (test .before .before) in
+    let s = start (test .before .before .before) in
     (stored .put-cell .kept .0 ∙ s .pre .1 .1 .0, omega (arith, s .pre .1 .1 .1, two test))
 
 add-result-2 : tie.Need-add-result-2
@@ -157,18 +148,19 @@ same-length-2 c = search needs
 returns-2 : tie.Need-returns-2
 returns-2 c =
     let call = c .before .before in
-    let stored = call .before .before .before .before .before in
+    let stored = call .before .before .before .before in
     let slot = stored .before .before .before in
     let test = slot .before .before in
-    let at = test .before .before in
+    let cell = test .before .before in
+    let at = cell .before in
     let s = start at in
     let g = gathered-dirty (s .args .h) (s .args .cache .now) (s .args .l) (s .args .i) (s .pre .1 .0) (s .args .allowance)
     (s .args .control .now) (s .args .n) (at .slot-of .result) (at .slot-of .ensures)
     (sym (test .before .dirty .ensures) ∙ test .if1 .left) (stored .put-cell .last .0) (call .put-shadow2 .last .0)
     (slot .before .owner .result) (stored .before .node-cell .result)
-    (call .before .shadow-cell2 .result) (slot .in-slot .result .now) (slot .before .owner .ensures) (slot .in-slot .ensures)
+    (cell .shadow-cell .result) (slot .in-slot .result .now) (slot .before .owner .ensures) (slot .in-slot .ensures)
     (stored .before .node-cell .ensures)
-    (call .before .shadow-cell2 .ensures) (stored .put-cell .ensures) (call .put-shadow2 .ensures) in
+    (cell .shadow-cell .ensures) (stored .put-cell .ensures) (call .put-shadow2 .ensures) in
     (g .cells, g .number)
 
 pub gather-node-spec : {M : Type 1} → statement M
@@ -176,8 +168,8 @@ gather-node-spec =
     tie.close
     (tie.spec
     slot-of-requires
-    dirty-requires
     shadow-cell-requires
+    dirty-requires
     add-put-shadow
     put-shadow-requires
     add-result
@@ -189,7 +181,6 @@ gather-node-spec =
     node-cell-requires
     put-cell-requires
     add-put-shadow-2
-    shadow-cell-requires-2
     add-put-shadow-3
     put-shadow-requires-2
     add-result-2
