@@ -32,7 +32,7 @@ use Rattle.call_laws.proofs.Apart.{Other, node-avoids, stored-length, content-k
 use Rattle.call_laws.proofs.Line.{Lent, all-length, all-sound, block-few}
 use Rattle.call_laws.proofs.Staged.{Staged, stored, staged-cut, staged-done}
 use Rattle.path.proofs.Ready.{Ready, fit, few}
-use Rattle.write.specs.Parts.{renewedTag, renewedBy}
+use Rattle.renewal.specs.Renewed.{renewedTag, renewedBy}
 use Rattle.write.proofs.Held.{path-over, renewed-over}
 
 pub cells-length : (h : ℕ) (keys c : List ℕ) (n : ℕ) (text : List ℕ) (ma mi : ℕ) (b : List ℕ)

@@ -19,7 +19,7 @@ use Rattle.slot_map.proofs.Laws.{slot-within, level-slot}
 use Rattle.cache.specs.Cache.{owner, content, withSlot, cellContent, holds}
 use Rattle.cache.proofs.Laws.{cell-length, length-with, content-other, slot-room, holds-owner, holds-same, holds-other}
 use Rattle.call_laws.specs.Walk.{withNode, withPath}
-use Rattle.write.specs.Parts.{renewedBy}
+use Rattle.renewal.specs.Renewed.{renewedBy}
 
 module _ (h : ℕ) (high : h ≤ 3) (p : ℕ) (page : p < pages h) where
   -- ---- one node

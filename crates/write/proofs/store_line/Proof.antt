@@ -19,7 +19,7 @@ use Rattle.call_laws.specs.Line.{lineCells}
 use Rattle.call_laws.proofs.Line.{Lent}
 use Rattle.call_laws.proofs.Staged.{Staged, staged-inside}
 use Rattle.path.proofs.Ready.{Ready}
-use Rattle.write.specs.Parts.{renewedTag, renewedBy}
+use Rattle.renewal.specs.Renewed.{renewedTag, renewedBy}
 use Rattle.write.proofs.Held.{path-owners}
 use Rattle.write.proofs.Batch.{batch-length, staging, write-cut, write-done}
 use Rattle.write.proofs.store_line.Statement.{statement}

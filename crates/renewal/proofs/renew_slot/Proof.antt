@@ -1,12 +1,12 @@
--- `write::renew_slot` meets its contract. Assumes nothing.
+-- `renewal::renew_slot` meets its contract. Assumes nothing.
 use mathlib.Core.Path.{_∙_}
 use Prim.Native.Nat.{_+_, _*_}
 use native.Mathlib.Omega.{arith}
 use borrow.Author.Needs.{needs}
 use lib.ListN.{length-set}
-use Rattle.write.proofs.Renewing.{slot-renewed}
-use Rattle.write.proofs.renew_slot.Statement.{statement}
-use Rattle.write.proofs.renew_slot.Tie as tie
+use Rattle.renewal.proofs.Renewing.{slot-renewed}
+use Rattle.renewal.proofs.renew_slot.Statement.{statement}
+use Rattle.renewal.proofs.renew_slot.Tie as tie
 
 mul-cache : tie.Need-mul-cache
 mul-cache c = search needs

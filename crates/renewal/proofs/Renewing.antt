@@ -16,7 +16,7 @@ use Rattle.slot_map.proofs.Laws.{slot-within, level-slot}
 use Rattle.cache.specs.Cache.{owner, content, withSlot}
 use Rattle.cache.proofs.Laws.{length-with, owner-other, content-other, content-length, slot-room}
 use Rattle.node.proofs.Laws.{slot-put}
-use Rattle.write.specs.Parts.{renewedBy}
+use Rattle.renewal.specs.Renewed.{renewedBy}
 
 -- ---- one slot in place
 

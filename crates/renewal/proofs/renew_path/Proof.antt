@@ -1,4 +1,4 @@
--- `write::renew_path` meets its contract. Assumes nothing.
+-- `renewal::renew_path` meets its contract. Assumes nothing.
 use mathlib.Core.Path.{_≡_, refl, sym, ap, _∙_}
 use Prim.Native.Nat.{ℕ, _+_, _-_, _≤_, suc, zero-le}
 use mathlib.Core.List.{List}
@@ -10,10 +10,10 @@ use Rattle.slot_map.specs.Slots.{cacheLength, slotOf}
 use Rattle.memory_map.specs.Map.{onPath}
 use Rattle.cache.specs.Cache.{owner}
 use Rattle.cache.proofs.Laws.{slot-room}
-use Rattle.write.specs.Parts.{renewedBy}
-use Rattle.write.proofs.Renewing.{renewed-length, renew-first, renew-next}
-use Rattle.write.proofs.renew_path.Statement.{statement}
-use Rattle.write.proofs.renew_path.Tie as tie
+use Rattle.renewal.specs.Renewed.{renewedBy}
+use Rattle.renewal.proofs.Renewing.{renewed-length, renew-first, renew-next}
+use Rattle.renewal.proofs.renew_path.Statement.{statement}
+use Rattle.renewal.proofs.renew_path.Tie as tie
 
 -- the cache is as it was renewed up to level l, whatever it was before its block was renewed
 abbrev Inv-loop : tie.InvT-loop

@@ -1,4 +1,4 @@
--- `write::path_tags` meets its contract. Assumes nothing.
+-- `renewal::path_tags` meets its contract. Assumes nothing.
 use mathlib.Core.Path.{refl, sym, ap, _∙_, subst}
 use Prim.Native.Nat.{ℕ, _+_, _-_}
 use native.Mathlib.Omega.{arith}
@@ -7,9 +7,9 @@ use Rattle.memory_map.specs.Map.{InMap}
 use Rattle.memory_map.specs.Map.Item.{node}
 use Rattle.memory_map.proofs.Laws.{path-node}
 use Rattle.node.proofs.Laws.{current-length}
-use Rattle.write.proofs.Laws.{Tagging, tagging-first, tagging-next}
-use Rattle.write.proofs.path_tags.Statement.{statement}
-use Rattle.write.proofs.path_tags.Tie as tie
+use Rattle.renewal.proofs.Tagging.{Tagging, tagging-first, tagging-next}
+use Rattle.renewal.proofs.path_tags.Statement.{statement}
+use Rattle.renewal.proofs.path_tags.Tie as tie
 
 abbrev Inv-loop : tie.InvT-loop
 Inv-loop h keys array cache p block tags₀ tag₀ l₀ tags tag l = Tagging h keys array cache p block tags tag l
