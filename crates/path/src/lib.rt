@@ -1,6 +1,6 @@
 // The path of a page from the top to its counter block, found without touching the cache.
 ghost use mathlib.Core.Path.{_≡_};
-ghost use Prim.Native.Nat.{suc, _+_, _*_, _<_, _≤_};
+ghost use Prim.Native.Nat.{suc, _<_, _≤_};
 ghost use lib.ListN.{length};
 ghost use lib.Dec.{eqb};
 ghost use Rattle.memory_map.specs.Map.{pages, pageOf, placeOf, onPath, cellOf, lines as linesOf};

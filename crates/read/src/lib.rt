@@ -11,7 +11,7 @@ ghost use Rattle.answer.specs.declared.Answer.the-variants.{Done, Blank};
 ghost use Rattle.control.specs.Control.{controlLength, depth as depthOf};
 ghost use Rattle.cache.specs.Cache.{cellContent, formed};
 ghost use Rattle.node.specs.Sized.{Sized};
-ghost use Rattle.calls.specs.Call.{buffers, ended, pathOf};
+ghost use Rattle.calls.specs.Call.{buffers, pathOf};
 ghost use Rattle.calls.specs.Read.{sideBytes, blankText, endedRead, readPath, read as reading};
 use answer::Answer;
 use path::Path;

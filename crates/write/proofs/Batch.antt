@@ -1,12 +1,12 @@
 -- The batch of a write, run under an allowance, and the cache after it. Assumes nothing.
 use mathlib.Core.Path.{_≡_, refl, sym, ap, ap₂, _∙_}
 use mathlib.Core.Bool.{Bool, true, false, cond}
-use mathlib.Core.List.{List, [], _∷_, _++_}
+use mathlib.Core.List.{List, [], _∷_}
 use Prim.Native.Nat.{ℕ, zero, suc, _+_, _*_, _%_, _≤_, _<_}
-use native.Mathlib.Nat.{le-refl, zero-add}
+use native.Mathlib.Nat.{le-refl}
 use native.Mathlib.Omega.{arith}
 use lib.Dec.{eqb}
-use lib.ListN.{length, getD, length-append}
+use lib.ListN.{length, getD}
 use Rattle.words.specs.Bytes.{toLe, put}
 use Rattle.memory_map.specs.Map.{cells, pageOf, onPath, cellOf, InMap}
 use Rattle.memory_map.specs.Map.Item.{line, node}
@@ -16,8 +16,7 @@ use Rattle.counter.specs.Counter.{phaseOf}
 use Rattle.tag.specs.Tag.{nodeTag}
 use Rattle.answer.specs.declared.Answer.the-variants.{Done, Cut}
 use Rattle.control.specs.Control.{Cell}
-use Rattle.batch.specs.Batch.{staged, stagedFrom}
-use Rattle.batch.proofs.Laws.{staged-one, staged-append}
+use Rattle.batch.specs.Batch.{stagedFrom}
 use Rattle.cache.specs.Cache.{content, cellContent, withSlot, holds, current}
 use Rattle.journal.specs.Journal.{Store, Media, media, storeAll, batchStores, made as takes}
 use Rattle.journal.proofs.Each.{Each, none, more, each-append}
@@ -29,41 +28,12 @@ use Rattle.call_laws.specs.Walk.{pathCells, withPath}
 use Rattle.call_laws.proofs.Loads.{Sound, cells-sound}
 use Rattle.call_laws.proofs.Loading.{path-content, path-length}
 use Rattle.call_laws.proofs.Apart.{Other, node-avoids, stored-length, content-kept}
-use Rattle.call_laws.proofs.Line.{Lent, all-length, all-sound, block-few}
+use Rattle.call_laws.proofs.Line.{Lent, all-sound, block-few}
 use Rattle.call_laws.proofs.Staged.{Staged, stored, staged-cut, staged-done}
 use Rattle.path.proofs.Ready.{Ready, fit, few}
+use Rattle.line_batch.proofs.Laws.{cells-length}
 use Rattle.renewal.specs.Renewed.{renewedTag, renewedBy}
 use Rattle.write.proofs.Held.{path-over, renewed-over}
-
-pub cells-length : (h : ℕ) (keys c : List ℕ) (n : ℕ) (text : List ℕ) (ma mi : ℕ) (b : List ℕ)
-    → length (lineCells h keys c n text ma mi b) ≡ length (pathCells h c (pageOf n) (suc h)) + length (blockCells h (pageOf n) mi b) + 1
-unfolding lineCells
-cells-length h keys c n text ma mi b = all-length h keys n text ma mi b (pathCells h c (pageOf n) (suc h))
-
--- what is staged step by step: the path, the block, the data cell
-module _ (h : ℕ) (keys c : List ℕ) (n : ℕ) (text : List ℕ) (ma mi : ℕ) (b : List ℕ) (allowance : ℕ) (p : ℕ) (page : p ≡ pageOf n) where
-  pub gathered : (k k₁ k₂ k₃ : List ℕ) (i j : ℕ)
-      → k₁ ≡ stagedFrom allowance 0 (pathCells h c p (suc h)) k → i ≡ length (pathCells h c p (suc h))
-      → k₂ ≡ stagedFrom allowance i (blockCells h p mi b) k₁ → j ≡ i + length (blockCells h p mi b)
-      → k₃ ≡ staged allowance j (lineCell keys n text ma mi) k₂
-      → (k₃ ≡ stagedFrom allowance 0 (lineCells h keys c n text ma mi b) k) × (j + 1 ≡ length (lineCells h keys c n text ma mi b))
-  unfolding lineCells
-  gathered k k₁ k₂ k₃ i j e₁ n₁ e₂ n₂ e₃ =
-      let x = pathCells h c (pageOf n) (suc h) in
-      let y = blockCells h (pageOf n) mi b in
-      let z = lineCell keys n text ma mi in
-      let first : i ≡ 0 + length x = n₁ ∙ ap (λ (q : ℕ). length (pathCells h c q (suc h))) page ∙ sym (zero-add (length x)) in
-      let second : j ≡ i + length y = n₂ ∙ ap (λ (q : ℕ). i + length (blockCells h q mi b)) page in
-      let two : k₂ ≡ stagedFrom allowance 0 (x ++ y) k =
-      e₂ ∙ ap (λ (q : ℕ). stagedFrom allowance i (blockCells h q mi b) k₁) page
-      ∙ ap₂ {C = List ℕ} (λ (m : ℕ) (w : List ℕ). stagedFrom allowance m y w) first
-      (e₁ ∙ ap (λ (q : ℕ). stagedFrom allowance 0 (pathCells h c q (suc h)) k) page)
-      ∙ sym (staged-append allowance 0 x y k) in
-      let at : j ≡ 0 + length (x ++ y) = omega (arith, length-append x y) in (
-        e₃ ∙ staged-one allowance j z k₂ ∙ ap₂ {C = List ℕ} (λ (m : ℕ) (w : List ℕ). stagedFrom allowance m (z ∷ []) w) at two
-            ∙ sym (staged-append allowance 0 (x ++ y) (z ∷ []) k),
-        omega (arith, length-append (x ++ y) (z ∷ [])),
-      )
 
 module _ {h : ℕ} {a k c : List ℕ} {n : ℕ} (y : Ready h a k c (pageOf n)) (keys : List ℕ) {text b : List ℕ} (v : Lent h n text b)
     (ma mi : ℕ) where

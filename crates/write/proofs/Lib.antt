@@ -1,4 +1,3 @@
-pub mod Laws
 pub mod Held
 pub mod Batch
 pub mod Writing

@@ -1,4 +1,4 @@
--- `write::put_path` meets its contract. Assumes nothing.
+-- `line_batch::put_path` meets its contract. Assumes nothing.
 use mathlib.Core.Path.{sym, ap, _∙_}
 use mathlib.Core.List.{List, []}
 use Prim.Native.Nat.{suc}
@@ -8,8 +8,8 @@ use Rattle.control.specs.Control.{Cell}
 use Rattle.batch.specs.Batch.{stagedFrom}
 use Rattle.batch.proofs.Laws.{staged-none}
 use Rattle.call_laws.proofs.Loads.{none-missing}
-use Rattle.write.proofs.put_path.Statement.{statement}
-use Rattle.write.proofs.put_path.Tie as tie
+use Rattle.line_batch.proofs.put_path.Statement.{statement}
+use Rattle.line_batch.proofs.put_path.Tie as tie
 
 returns : tie.Need-returns
 returns c =

@@ -1,10 +1,10 @@
--- `write::seal` meets its contract. Assumes nothing.
+-- `line_batch::seal` meets its contract. Assumes nothing.
 use mathlib.Core.Path.{_∙_}
 use native.Mathlib.Omega.{arith}
 use borrow.Author.Needs.{needs}
-use Rattle.write.proofs.Laws.{tag-small, seal-bytes}
-use Rattle.write.proofs.seal.Statement.{statement}
-use Rattle.write.proofs.seal.Tie as tie
+use Rattle.line_batch.proofs.Laws.{tag-small, seal-bytes}
+use Rattle.line_batch.proofs.seal.Statement.{statement}
+use Rattle.line_batch.proofs.seal.Tie as tie
 
 cast-apply : tie.Need-cast-apply
 cast-apply c = search needs

@@ -1,7 +1,7 @@
--- Laws of the batch of a write: the data cell and the counter block. Assumes nothing.
+-- Laws of the batch of a write: the data cell, the counter block, and all of it. Assumes nothing.
 use mathlib.Core.Path.{_≡_, sym, ap, ap₂, _∙_}
 use mathlib.Core.List.{List, [], _∷_, _++_}
-use Prim.Native.Nat.{ℕ, _+_, _*_, _/_, _%_, _^_, _<_}
+use Prim.Native.Nat.{ℕ, suc, _+_, _*_, _/_, _%_, _^_, _<_}
 use native.Mathlib.Nat.{zero-add}
 use native.Mathlib.Omega.{arith}
 use borrow.Author.Tests.{lt-ltb, eq-eqb, ne-eqb}
@@ -11,18 +11,19 @@ use Rattle.words.specs.Bytes.{digits, toLe, put}
 use Rattle.words.proofs.Digits.{length-digits}
 use Rattle.words.proofs.Parts.{put-append, put-all}
 use Rattle.words.proofs.Puts.{part-put}
-use Rattle.memory_map.specs.Map.{cellOf}
+use Rattle.memory_map.specs.Map.{pageOf, cellOf}
 use Rattle.memory_map.specs.Map.Item.{node}
 use Rattle.pad.specs.Pad.{pad, xorBytes}
 use Rattle.tag.specs.Tag.{dataTag}
 use Rattle.tag.proofs.Tags.{dataTag-lt}
 use Rattle.control.specs.Control.{Cell, controlLength, placeAt}
 use Rattle.batch.specs.Batch.{cellWith, staged, stagedFrom}
-use Rattle.batch.proofs.Laws.{staged-none, staged-one}
+use Rattle.batch.proofs.Laws.{staged-none, staged-one, staged-append}
 use Rattle.calls.specs.Path.{nodeCell}
 use Rattle.calls.specs.Read.{sideBytes}
-use Rattle.call_laws.specs.Line.{lineCell, blockCells}
-use Rattle.call_laws.proofs.Line.{sealed-length}
+use Rattle.call_laws.specs.Walk.{pathCells}
+use Rattle.call_laws.specs.Line.{lineCell, blockCells, lineCells}
+use Rattle.call_laws.proofs.Line.{sealed-length, all-length}
 
 -- ---- the data cell
 
@@ -92,3 +93,35 @@ module _ (h p mi : ℕ) (b : List ℕ) (allowance : ℕ) (before : List ℕ) (n 
             ∙ ap (λ (z : List Cell). stagedFrom allowance n z before) (sym one);
         number = sym (ap (λ (z : List Cell). n + length z) one);
       }
+
+-- ---- the batch
+
+pub cells-length : (h : ℕ) (keys c : List ℕ) (n : ℕ) (text : List ℕ) (ma mi : ℕ) (b : List ℕ)
+    → length (lineCells h keys c n text ma mi b) ≡ length (pathCells h c (pageOf n) (suc h)) + length (blockCells h (pageOf n) mi b) + 1
+unfolding lineCells
+cells-length h keys c n text ma mi b = all-length h keys n text ma mi b (pathCells h c (pageOf n) (suc h))
+
+-- what is staged step by step: the path, the block, the data cell
+module _ (h : ℕ) (keys c : List ℕ) (n : ℕ) (text : List ℕ) (ma mi : ℕ) (b : List ℕ) (allowance : ℕ) (p : ℕ) (page : p ≡ pageOf n) where
+  pub gathered : (k k₁ k₂ k₃ : List ℕ) (i j : ℕ)
+      → k₁ ≡ stagedFrom allowance 0 (pathCells h c p (suc h)) k → i ≡ length (pathCells h c p (suc h))
+      → k₂ ≡ stagedFrom allowance i (blockCells h p mi b) k₁ → j ≡ i + length (blockCells h p mi b)
+      → k₃ ≡ staged allowance j (lineCell keys n text ma mi) k₂
+      → (k₃ ≡ stagedFrom allowance 0 (lineCells h keys c n text ma mi b) k) × (j + 1 ≡ length (lineCells h keys c n text ma mi b))
+  unfolding lineCells
+  gathered k k₁ k₂ k₃ i j e₁ n₁ e₂ n₂ e₃ =
+      let x = pathCells h c (pageOf n) (suc h) in
+      let y = blockCells h (pageOf n) mi b in
+      let z = lineCell keys n text ma mi in
+      let first : i ≡ 0 + length x = n₁ ∙ ap (λ (q : ℕ). length (pathCells h c q (suc h))) page ∙ sym (zero-add (length x)) in
+      let second : j ≡ i + length y = n₂ ∙ ap (λ (q : ℕ). i + length (blockCells h q mi b)) page in
+      let two : k₂ ≡ stagedFrom allowance 0 (x ++ y) k =
+      e₂ ∙ ap (λ (q : ℕ). stagedFrom allowance i (blockCells h q mi b) k₁) page
+      ∙ ap₂ {C = List ℕ} (λ (m : ℕ) (w : List ℕ). stagedFrom allowance m y w) first
+      (e₁ ∙ ap (λ (q : ℕ). stagedFrom allowance 0 (pathCells h c q (suc h)) k) page)
+      ∙ sym (staged-append allowance 0 x y k) in
+      let at : j ≡ 0 + length (x ++ y) = omega (arith, length-append x y) in (
+        e₃ ∙ staged-one allowance j z k₂ ∙ ap₂ {C = List ℕ} (λ (m : ℕ) (w : List ℕ). stagedFrom allowance m (z ∷ []) w) at two
+            ∙ sym (staged-append allowance 0 (x ++ y) (z ∷ []) k),
+        omega (arith, length-append (x ++ y) (z ∷ [])),
+      )

@@ -1,4 +1,4 @@
--- `write::put_data` meets its contract. Assumes nothing.
+-- `line_batch::put_data` meets its contract. Assumes nothing.
 use mathlib.Core.Path.{_≡_, refl, ap, ap₂, _∙_}
 use mathlib.Core.List.{List}
 use Prim.Native.Nat.{ℕ, _+_, _-_}
@@ -11,9 +11,9 @@ use Rattle.control.specs.Control.{placeAt}
 use Rattle.batch.proofs.Laws.{staged-past}
 use Rattle.call_laws.specs.Line.{lineCell}
 use Rattle.call_laws.proofs.Line.{line-cell-length}
-use Rattle.write.proofs.Laws.{line-put}
-use Rattle.write.proofs.put_data.Statement.{statement}
-use Rattle.write.proofs.put_data.Tie as tie
+use Rattle.line_batch.proofs.Laws.{line-put}
+use Rattle.line_batch.proofs.put_data.Statement.{statement}
+use Rattle.line_batch.proofs.put_data.Tie as tie
 
 mul-at : tie.Need-mul-at
 mul-at c = search needs

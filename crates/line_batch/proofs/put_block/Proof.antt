@@ -1,13 +1,13 @@
--- `write::put_block` meets its contract. Assumes nothing.
+-- `line_batch::put_block` meets its contract. Assumes nothing.
 use mathlib.Core.Path.{subst}
 use Prim.Native.Nat.{ℕ, zero-le}
 use borrow.Author.Needs.{needs}
 use Rattle.memory_map.specs.Map.{InMap}
 use Rattle.memory_map.specs.Map.Item.{node}
 use Rattle.memory_map.proofs.Laws.{path-bottom, path-node}
-use Rattle.write.proofs.Laws.{block-none, block-some}
-use Rattle.write.proofs.put_block.Statement.{statement}
-use Rattle.write.proofs.put_block.Tie as tie
+use Rattle.line_batch.proofs.Laws.{block-none, block-some}
+use Rattle.line_batch.proofs.put_block.Statement.{statement}
+use Rattle.line_batch.proofs.put_block.Tie as tie
 
 returns : tie.Need-returns
 returns c =

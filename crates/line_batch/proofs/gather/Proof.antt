@@ -1,4 +1,4 @@
--- `write::gather` meets its contract. Assumes nothing.
+-- `line_batch::gather` meets its contract. Assumes nothing.
 use mathlib.Core.Path.{refl, sym, ap, _∙_, subst}
 use Prim.Native.Nat.{ℕ, suc, _+_, _^_, _≤_, _<_}
 use native.Mathlib.Omega.{arith}
@@ -8,9 +8,9 @@ use Rattle.memory_map.specs.Map.{pages}
 use Rattle.memory_map.proofs.Laws.{page-inside, lines-small}
 use Rattle.call_laws.specs.Walk.{missing, pathCells}
 use Rattle.call_laws.specs.Line.{blockCells}
-use Rattle.write.proofs.Batch.{cells-length, gathered}
-use Rattle.write.proofs.gather.Statement.{statement}
-use Rattle.write.proofs.gather.Tie as tie
+use Rattle.line_batch.proofs.Laws.{cells-length, gathered}
+use Rattle.line_batch.proofs.gather.Statement.{statement}
+use Rattle.line_batch.proofs.gather.Tie as tie
 
 page-of-requires : tie.Need-page-of-requires
 page-of-requires c κs = search needs
