@@ -1,4 +1,4 @@
--- `write::store_line` meets its contract. Assumes nothing.
+-- `line_store::store_line` meets its contract. Assumes nothing.
 use mathlib.Core.Path.{_≡_, refl, sym, ap, ap₂, _∙_}
 use mathlib.Core.List.{List}
 use Prim.Native.Nat.{ℕ, suc, _≤_, _<_}
@@ -20,10 +20,10 @@ use Rattle.call_laws.proofs.Line.{Lent}
 use Rattle.call_laws.proofs.Staged.{Staged, staged-inside}
 use Rattle.path.proofs.Ready.{Ready}
 use Rattle.renewal.specs.Renewed.{renewedTag, renewedBy}
-use Rattle.write.proofs.Held.{path-owners}
-use Rattle.write.proofs.Batch.{batch-length, staging, write-cut, write-done}
-use Rattle.write.proofs.store_line.Statement.{statement}
-use Rattle.write.proofs.store_line.Tie as tie
+use Rattle.line_store.proofs.Held.{path-owners}
+use Rattle.line_store.proofs.Batch.{batch-length, staging, write-cut, write-done}
+use Rattle.line_store.proofs.store_line.Statement.{statement}
+use Rattle.line_store.proofs.store_line.Tie as tie
 
 page-of-requires : tie.Need-page-of-requires
 page-of-requires c κs = search needs

@@ -1,8 +1,8 @@
--- `write::block_flag` meets its contract. Assumes nothing.
+-- `line_store::block_flag` meets its contract. Assumes nothing.
 use Prim.Native.Nat.{_%_}
 use borrow.Author.Tests.{eq-eqb, ne-eqb}
-use Rattle.write.proofs.block_flag.Statement.{statement}
-use Rattle.write.proofs.block_flag.Tie as tie
+use Rattle.line_store.proofs.block_flag.Statement.{statement}
+use Rattle.line_store.proofs.block_flag.Tie as tie
 
 returns : tie.Need-returns
 returns c = rw (eq-eqb (c .before .args .minor % 4) 0 (c .if1 .taken))

@@ -33,7 +33,7 @@ use Rattle.call_laws.proofs.Staged.{Staged, stored, staged-cut, staged-done}
 use Rattle.path.proofs.Ready.{Ready, fit, few}
 use Rattle.line_batch.proofs.Laws.{cells-length}
 use Rattle.renewal.specs.Renewed.{renewedTag, renewedBy}
-use Rattle.write.proofs.Held.{path-over, renewed-over}
+use Rattle.line_store.proofs.Held.{path-over, renewed-over}
 
 module _ {h : ℕ} {a k c : List ℕ} {n : ℕ} (y : Ready h a k c (pageOf n)) (keys : List ℕ) {text b : List ℕ} (v : Lent h n text b)
     (ma mi : ℕ) where

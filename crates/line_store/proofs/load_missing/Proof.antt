@@ -1,10 +1,10 @@
--- `write::load_missing` meets its contract. Assumes nothing.
+-- `line_store::load_missing` meets its contract. Assumes nothing.
 use mathlib.Core.Path.{sym, _∙_}
 use Prim.Native.Nat.{suc}
 use borrow.Author.Needs.{needs}
 use Rattle.call_laws.proofs.Loads.{none-missing}
-use Rattle.write.proofs.load_missing.Statement.{statement}
-use Rattle.write.proofs.load_missing.Tie as tie
+use Rattle.line_store.proofs.load_missing.Statement.{statement}
+use Rattle.line_store.proofs.load_missing.Tie as tie
 
 returns : tie.Need-returns
 returns c =
