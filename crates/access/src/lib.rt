@@ -17,10 +17,12 @@ pub fn opening(keys: &[u8], control: &[u8], array: &[u8], cache: &[u8]) -> u64
         return 21;
     }
     let h = control::depth(control);
-    if array.len() != memory_map::array_length(h) {
+    let array_size = memory_map::array_length(h);
+    let cache_size = slot_map::cache_length(h);
+    if array.len() != array_size {
         return 4;
     }
-    if cache.len() != slot_map::cache_length(h) {
+    if cache.len() != cache_size {
         return 5;
     }
     0

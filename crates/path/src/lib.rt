@@ -1,19 +1,15 @@
-// The path of a page from the top to its counter block. Walking it leaves the cache as it is.
+// The path of a page from the top to its counter block, found without touching the cache.
 ghost use mathlib.Core.Path.{_≡_};
-ghost use mathlib.Core.Bool.{true, false};
-ghost use Prim.Native.Nat.{suc, _+_, _*_, _<_, _≤_};
+ghost use Prim.Native.Nat.{suc, _<_, _≤_};
 ghost use lib.ListN.{length};
 ghost use lib.Dec.{eqb};
-ghost use Rattle.memory_map.specs.Map.{pages, pageOf, placeOf, onPath, cellOf, InMap, lines as linesOf};
+ghost use Rattle.memory_map.specs.Map.{pages, pageOf, placeOf, onPath, cellOf, lines as linesOf};
 ghost use Rattle.memory_map.specs.Map.Item.{node};
-ghost use Rattle.slot_map.specs.Slots.{cacheLength};
 ghost use Rattle.tag.specs.Tag.{nodeTag};
-ghost use Rattle.control.specs.Control.{controlLength};
-ghost use Rattle.cache.specs.Cache.{cellContent, formed, holds, current};
-ghost use Rattle.batch.specs.Batch.{stagedFrom};
+ghost use Rattle.cache.specs.Cache.{cellContent, current};
 ghost use Rattle.node.specs.Sized.{Sized};
 ghost use Rattle.calls.specs.Path.{loadPath};
-ghost use Rattle.call_laws.specs.Walk.{missing as missingNodes, expectedTag, nodeCells, pathCells, withPath};
+ghost use Rattle.call_laws.specs.Walk.{missing as missingNodes, expectedTag};
 ghost use Rattle.path.specs.Told.{told, refusalOf, CounterOf};
 use answer::Answer;
 use memory_map::on_path;
@@ -121,87 +117,5 @@ pub fn line_counter<'a>(h: usize, array: &'a [u8], cache: &'a [u8], line: usize)
     Counter {
         major: counter::major(block),
         minor: counter::minor(block, memory_map::place_of(line)),
-    }
-}
-
-// Stages the cells of a missing node behind n others, and tells how many cells there then are.
-fn gather_node(
-    h: usize,
-    cache: &[u8],
-    l: usize,
-    i: usize,
-    control: &mut [u8],
-    n: usize,
-    allowance: u64,
-) -> usize
-    requires { ⌜ (1 ≤ h) × ((h ≤ 3) × ((length (now cache) ≡ cacheLength h) × ((formed h (now cache) ≡ true) × InMap h (node l i)))) ⌝ }
-    requires { ⌜ (holds (now cache) l i ≡ false)
-        × ((length (now control) ≡ controlLength) × (n + length (nodeCells h (now cache) l i) ≤ 8)) ⌝ }
-    ensures { λ _. ⌜ now (control .exit) ≡ stagedFrom allowance n (nodeCells h (now (cache .entry)) l i) (now (control .entry)) ⌝ }
-    ensures { λ r. ⌜ r ≡ n + length (nodeCells h (now (cache .entry)) l i) ⌝ }
-{
-    let s = slot_map::slot_of(l, i);
-    if cache::dirty(cache, s) != 1 {
-        batch::put_shadow(
-            control,
-            n,
-            allowance,
-            memory_map::shadow_cell(h, s),
-            i as u64 + 1,
-        );
-        return n + 1;
-    }
-    let former = cache::owner(cache, s) as usize - 1;
-    let content = node::in_slot(cache, s);
-    batch::put_cell(
-        control,
-        n,
-        allowance,
-        memory_map::node_cell(h, l, former),
-        content,
-        0,
-    );
-    batch::put_shadow(
-        control,
-        n + 1,
-        allowance,
-        memory_map::shadow_cell(h, s),
-        i as u64 + 1,
-    );
-    n + 2
-}
-
-// Stages the batch of a path: per missing node its slot's dirty former owner, then the shadow cell.
-pub fn gather(h: usize, cache: &[u8], p: usize, control: &mut [u8], allowance: u64) -> usize
-    requires { ⌜ (1 ≤ h) × ((h ≤ 3) × ((length (now cache) ≡ cacheLength h) × ((formed h (now cache) ≡ true) × (p < pages h)))) ⌝ }
-    requires { ⌜ (length (now control) ≡ controlLength) × (length (pathCells h (now cache) p (suc h)) ≤ 8) ⌝ }
-    ensures { λ _. ⌜ now (control .exit) ≡ stagedFrom allowance 0 (pathCells h (now (cache .entry)) p (suc h)) (now (control .entry)) ⌝ }
-    ensures { λ r. ⌜ r ≡ length (pathCells h (now (cache .entry)) p (suc h)) ⌝ }
-{
-    let mut k = 0;
-    let mut n = h + 1;
-    while 0 < n {
-        n -= 1;
-        let i = on_path(p, n);
-        if !node::holds(cache, n, i) {
-            k = gather_node(h, cache, n, i, control, k, allowance);
-        }
-    }
-    k
-}
-
-// Loads the missing nodes of a path into their slots.
-pub fn load(h: usize, array: &[u8], p: usize, cache: &mut [u8])
-    requires { ⌜ Sized h (now array) (now cache) × (p < pages h) ⌝ }
-    ensures { λ _. ⌜ now (cache .exit) ≡ withPath h (now (array .entry)) p (suc h) (now (cache .entry)) ⌝ }
-{
-    let mut n = h + 1;
-    while 0 < n {
-        n -= 1;
-        let i = on_path(p, n);
-        if !node::holds(cache, n, i) {
-            let content = node::in_cell(array, memory_map::node_cell(h, n, i));
-            node::put_slot(cache, slot_map::slot_of(n, i), i as u64 + 1, 0, content);
-        }
     }
 }

@@ -1,19 +1,18 @@
 // Reading a line.
 ghost use mathlib.Core.Path.{_≡_};
 ghost use mathlib.Core.Bool.{true, cond};
-ghost use Prim.Native.Nat.{suc, _+_, _*_, _^_, _<_, _≤_};
+ghost use Prim.Native.Nat.{_+_, _*_, _^_, _<_, _≤_};
 ghost use lib.Dec.{eqb};
 ghost use lib.ListN.{length};
 ghost use Rattle.words.specs.Bytes.{fromLe, part};
-ghost use Rattle.memory_map.specs.Map.{pages, lines};
+ghost use Rattle.memory_map.specs.Map.{lines};
 ghost use Rattle.pad.specs.Pad.{pad as padOf, xorBytes};
 ghost use Rattle.answer.specs.declared.Answer.the-variants.{Done, Blank};
-ghost use Rattle.control.specs.Control.{controlLength, depth as depthOf, root as rootOf};
+ghost use Rattle.control.specs.Control.{controlLength, depth as depthOf};
 ghost use Rattle.cache.specs.Cache.{cellContent, formed};
 ghost use Rattle.node.specs.Sized.{Sized};
-ghost use Rattle.calls.specs.Call.{buffers, ended, storing, pathOf};
+ghost use Rattle.calls.specs.Call.{buffers, pathOf};
 ghost use Rattle.calls.specs.Read.{sideBytes, blankText, endedRead, readPath, read as reading};
-ghost use Rattle.call_laws.specs.Walk.{missing as missingNodes, pathStores, withPath};
 use answer::Answer;
 use path::Path;
 
@@ -25,37 +24,6 @@ fn side_ok(keys: &[u8], array: &[u8], line: usize, major: u64, minor: u64) -> bo
 {
     let tag = tag::data_tag(keys, node::in_cell(array, line), line as u64, major, minor);
     words::load64(array, 72 * line + 64) == minor % 4 + 256 * tag
-}
-
-// Loads the missing nodes of a path under an allowance: done, or cut with the cache as it was.
-fn settle(
-    h: usize,
-    control: &mut [u8],
-    array: &mut [u8],
-    cache: &mut [u8],
-    p: usize,
-    missing: u64,
-    allowance: u64,
-) -> Answer
-    requires { ⌜ (length (now control) ≡ controlLength) × (Sized h (now array) (now cache)
-        × ((formed h (now cache) ≡ true) × ((p < pages h) × (missing ≡ missingNodes (now cache) p (suc h))))) ⌝ }
-    ensures { λ r. ⌜ ended r (now (array .exit)) (now (control .exit)) (now (cache .exit))
-        ≡ storing allowance (buffers (now (array .entry)) (now (control .entry)) (now (cache .entry)))
-        (pathStores h (now (cache .entry)) p (rootOf (now (control .entry))))
-        (Done (length (pathStores h (now (cache .entry)) p (rootOf (now (control .entry))))) 0)
-        (withPath h (now (array .entry)) p (suc h) (now (cache .entry))) ⌝ }
-{
-    if missing == 0 {
-        return Answer::Done { stores: 0, sum: 0 };
-    }
-    let root = control::root(control);
-    let n = path::gather(h, cache, p, control, allowance);
-    let stores = journal::run(array, control, n, root, allowance);
-    if stores < 2 * n as u64 + 3 {
-        return Answer::Cut { stores };
-    }
-    path::load(h, array, p, cache);
-    Answer::Done { stores, sum: 0 }
 }
 
 // Writes what a line reads as at a counter, once its stores are made, and answers.
@@ -122,7 +90,7 @@ fn read_line(
             };
         }
     }
-    let ended = settle(h, control, array, cache, p, missing, allowance);
+    let ended = loading::settle(h, control, array, cache, p, missing, allowance);
     let Answer::Done { stores, sum: _ } = ended else {
         return ended;
     };

@@ -1,5 +1,1 @@
-pub mod Laws
-pub mod Renewing
-pub mod Held
-pub mod Batch
 pub mod Writing

@@ -22,7 +22,7 @@ use Rattle.call_laws.specs.Line.{lineCell, blockCells, lineCells}
 use Rattle.call_laws.specs.Walk.{pathCells, withPath}
 use Rattle.path.specs.declared.Counter.{Counter}
 use Rattle.path.proofs.Ready.{Found, block-found, major-found, minor-found}
-use Rattle.write.specs.Parts.{storedLine}
+use Rattle.line_store.specs.Stored.{storedLine}
 
 pub write-differs : (keys : List ℕ) (line : ℕ) (text : List ℕ) (allowance : ℕ) (m : Module) {l i : ℕ} → pathOf keys line m ≡ differs l i
     → ended (Refused 24 0 l i) (m .array) (m .control) (m .cache) ≡ writePath keys line text allowance m (pathOf keys line m)

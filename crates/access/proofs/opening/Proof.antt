@@ -47,35 +47,37 @@ array-length-requires c κs = deep c
 array-size : (c : tie.After-array-length) → c .array-length .result ≡ arrayLength (depth (start (c .before .before) .args .control .now))
 array-size c = c .array-length .ensures ∙ ap arrayLength (c .before .depth .ensures)
 
+cache-length-requires : tie.Need-cache-length-requires
+cache-length-requires c κs = deep (c .before)
+
+cache-size : (c : tie.After-cache-length)
+    → c .cache-length .result ≡ cacheLength (depth (start (c .before .before .before) .args .control .now))
+cache-size c = c .cache-length .ensures ∙ ap cacheLength (c .before .before .depth .ensures)
+
 returns-4 : tie.Need-returns-4
 returns-4 c =
-    let at = c .before in
+    let at = c .before .before in
     let third = at .before .before in
     let test = third .before .before in
     wrong-array _ _ (test .before .if1 .left) (test .if2 .left) (is-valid third) (λ e. c .if4 .taken (e ∙ sym (array-size at)))
 
-cache-length-requires : tie.Need-cache-length-requires
-cache-length-requires c κs = deep (c .before .before)
-
-cache-size : (c : tie.After-cache-length)
-    → c .cache-length .result ≡ cacheLength (depth (start (c .before .before .before .before) .args .control .now))
-cache-size c = c .cache-length .ensures ∙ ap cacheLength (c .before .before .before .depth .ensures)
-
 returns-5 : tie.Need-returns-5
 returns-5 c =
-    let at = c .before .before .before in
+    let sizes = c .before .before in
+    let at = sizes .before in
     let third = at .before .before in
     let test = third .before .before in
-    wrong-cache _ _ (test .before .if1 .left) (test .if2 .left) (is-valid third) (c .before .before .if4 .left ∙ array-size at)
-    (λ e. c .if5 .taken (e ∙ sym (cache-size (c .before))))
+    wrong-cache _ _ (test .before .if1 .left) (test .if2 .left) (is-valid third) (c .before .if4 .left ∙ array-size at)
+    (λ e. c .if5 .taken (e ∙ sym (cache-size sizes)))
 
 returns-6 : tie.Need-returns-6
 returns-6 c =
-    let at = c .before .before .before in
+    let sizes = c .before .before in
+    let at = sizes .before in
     let third = at .before .before in
     let test = third .before .before in
-    right-cache _ _ (test .before .if1 .left) (test .if2 .left) (is-valid third) (c .before .before .if4 .left ∙ array-size at)
-    (c .if5 .left ∙ cache-size (c .before))
+    right-cache _ _ (test .before .if1 .left) (test .if2 .left) (is-valid third) (c .before .if4 .left ∙ array-size at)
+    (c .if5 .left ∙ cache-size sizes)
 
 pub opening-spec : {M : Type 1} → statement M
 opening-spec =
@@ -87,7 +89,7 @@ opening-spec =
     returns-3
     depth-requires
     array-length-requires
-    returns-4
     cache-length-requires
+    returns-4
     returns-5
     returns-6)

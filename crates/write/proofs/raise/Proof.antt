@@ -13,7 +13,7 @@ use Rattle.counter.proofs.Laws.{length-withMinor}
 use Rattle.cache.specs.Cache.{current}
 use Rattle.calls.specs.Call.{buffers}
 use Rattle.node.proofs.Laws.{current-length}
-use Rattle.write.specs.Parts.{storedLine}
+use Rattle.line_store.specs.Stored.{storedLine}
 use Rattle.write.proofs.raise.Statement.{statement}
 use Rattle.write.proofs.raise.Tie as tie
 

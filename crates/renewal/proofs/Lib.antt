@@ -1,0 +1,2 @@
+pub mod Tagging
+pub mod Renewing
