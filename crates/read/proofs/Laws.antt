@@ -1,38 +1,14 @@
--- Laws of reading: side bytes as one word, and answers that are not done. Assumes nothing.
-use mathlib.Core.Path.{_≡_, sym, ap, subst}
+-- Answers that are not done. Assumes nothing.
+use mathlib.Core.Path.{_≡_, subst}
 use mathlib.Core.Logic.{inl, inr}
-use mathlib.Core.List.{List, [], _∷_}
+use mathlib.Core.List.{[], _∷_}
 use denote.Enum.Declared.{tagOf}
 use types.Run.{OneOf}
-use Prim.Native.Nat.{ℕ, _+_, _-_, _*_, _%_, _^_, _≤_, _<_}
+use Prim.Native.Nat.{ℕ}
 use native.Mathlib.Omega.{arith}
-use lib.Dec.{lit<}
-use lib.ListN.{length}
-use Rattle.words.specs.Bytes.{number, fromLe}
-use Rattle.words.proofs.Digits.{number-exact}
-use Rattle.words.proofs.Parts.{length-part}
-use Rattle.tag.specs.Tag.{dataTag}
-use Rattle.tag.proofs.Tags.{dataTag-lt}
 use Rattle.answer.specs.declared.Answer.{Answer}
 use Rattle.answer.specs.declared.Answer.the-variants.{Done}
 use Rattle.answer.proofs.Answer.{the-type}
-use Rattle.cache.specs.Cache.{cellContent}
-use Rattle.calls.specs.Read.{sideBytes}
-
--- ---- side bytes
-
-pub side-word : (keys b : List ℕ) (line ma mi : ℕ) → mi % 4 + 256 * dataTag keys b line ma mi ≡ fromLe (sideBytes keys b line ma mi)
-unfolding number
-side-word keys b line ma mi =
-    ap (λ (t : ℕ). mi % 4 + 256 * t) (sym (number-exact 256 7 (dataTag keys b line ma mi) (lit< tt) (dataTag-lt keys b line ma mi)))
-
-pub cell-size : (a : List ℕ) (n : ℕ) → 72 * n + 72 ≤ length a → length (cellContent a n) ≡ 64
-unfolding cellContent
-cell-size a n h = length-part a (72 * n) 64 (omega arith)
-
--- it fits a word
-pub side-small : (keys b : List ℕ) (line ma mi : ℕ) {t : ℕ} → t ≡ dataTag keys b line ma mi → 256 * t < 2 ^ 64 - 255
-side-small keys b line ma mi e = omega (arith, dataTag-lt keys b line ma mi)
 
 -- an answer of another variant than the first is not done
 pub not-done : (r : Answer) → OneOf (1 ∷ 2 ∷ 3 ∷ []) (tagOf the-type r) → (n s : ℕ) → r ≡ Done n s → ⊥

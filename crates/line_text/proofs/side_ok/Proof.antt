@@ -1,4 +1,4 @@
--- `read::side_ok` meets its contract. Assumes nothing.
+-- `line_text::side_ok` meets its contract. Assumes nothing.
 use mathlib.Core.Path.{_≡_, ap, ap₂, _∙_}
 use mathlib.Core.List.{List}
 use Prim.Native.Nat.{ℕ, _+_, _*_, _%_, _^_, _-_, _<_}
@@ -8,9 +8,9 @@ use lib.Dec.{eqb}
 use lib.ListN.{length}
 use Rattle.tag.specs.Tag.{dataTag}
 use Rattle.cache.specs.Cache.{cellContent}
-use Rattle.read.proofs.Laws.{side-word, side-small, cell-size}
-use Rattle.read.proofs.side_ok.Statement.{statement}
-use Rattle.read.proofs.side_ok.Tie as tie
+use Rattle.line_text.proofs.Laws.{side-word, side-small, cell-size}
+use Rattle.line_text.proofs.side_ok.Statement.{statement}
+use Rattle.line_text.proofs.side_ok.Tie as tie
 
 in-cell-requires : tie.Need-in-cell-requires
 in-cell-requires c κs = search needs

@@ -1,4 +1,4 @@
--- `read::give` meets its contract. Assumes nothing.
+-- `line_text::give` meets its contract. Assumes nothing.
 use mathlib.Core.Path.{sym, ap, _∙_}
 use mathlib.Core.Bool.{Bool, cond}
 use mathlib.Core.List.{List}
@@ -11,9 +11,9 @@ use Rattle.pad.specs.Pad.{pad, xorBytes}
 use Rattle.answer.specs.declared.Answer.the-variants.{Done, Blank}
 use Rattle.cache.specs.Cache.{cellContent}
 use Rattle.calls.specs.Read.{blankText}
-use Rattle.read.proofs.Laws.{cell-size}
-use Rattle.read.proofs.give.Statement.{statement}
-use Rattle.read.proofs.give.Tie as tie
+use Rattle.line_text.proofs.Laws.{cell-size}
+use Rattle.line_text.proofs.give.Statement.{statement}
+use Rattle.line_text.proofs.give.Tie as tie
 
 zero-requires : tie.Need-zero-requires
 zero-requires c κs = search needs

@@ -1,0 +1,53 @@
+// The text of a line whose counter is known: whether its data cell fits the counter, and what it reads as.
+ghost use mathlib.Core.Path.{_≡_};
+ghost use mathlib.Core.Bool.{cond};
+ghost use Prim.Native.Nat.{_+_, _*_, _^_, _<_, _≤_};
+ghost use lib.Dec.{eqb};
+ghost use lib.ListN.{length};
+ghost use Rattle.words.specs.Bytes.{fromLe, part};
+ghost use Rattle.pad.specs.Pad.{pad as padOf, xorBytes};
+ghost use Rattle.answer.specs.declared.Answer.the-variants.{Done, Blank};
+ghost use Rattle.cache.specs.Cache.{cellContent};
+ghost use Rattle.calls.specs.Read.{sideBytes, blankText};
+use answer::Answer;
+
+// Whether a line's data cell has the phase and the tag of a counter.
+pub fn side_ok(keys: &[u8], array: &[u8], line: usize, major: u64, minor: u64) -> bool
+    requires { ⌜ (length (now keys) ≡ 48) × (72 * line + 72 ≤ length (now array)) ⌝ }
+    ensures { λ r. ⌜ r ≡ eqb (fromLe (part (now (array .entry)) (72 * line + 64) 8))
+        (fromLe (sideBytes (now (keys .entry)) (cellContent (now (array .entry)) line) line major minor)) ⌝ }
+{
+    let tag = tag::data_tag(keys, node::in_cell(array, line), line as u64, major, minor);
+    words::load64(array, 72 * line + 64) == minor % 4 + 256 * tag
+}
+
+// Writes what a line reads as at a counter, once its stores are made, and answers.
+pub fn give(
+    keys: &[u8],
+    array: &[u8],
+    line: usize,
+    major: u64,
+    minor: u64,
+    stores: u64,
+    out: &mut [u8],
+) -> Answer
+    requires { ⌜ (length (now keys) ≡ 48) × ((72 * line + 72 ≤ length (now array))
+        × ((line < 2 ^ 32) × ((minor < 128) × (length (now out) ≡ 64)))) ⌝ }
+    ensures { λ r. ⌜ r ≡ cond (eqb minor 0) (Blank stores) (Done stores 0) ⌝ }
+    ensures { λ _. ⌜ now (out .exit) ≡ cond (eqb minor 0) blankText
+        (xorBytes (cellContent (now (array .entry)) line) (padOf (now (keys .entry)) line major minor)) ⌝ }
+{
+    if minor == 0 {
+        copying::zero(out, 0, 64);
+        return Answer::Blank { stores };
+    }
+    pad::apply(
+        keys,
+        line as u32,
+        major,
+        minor as u32,
+        node::in_cell(array, line),
+        out,
+    );
+    Answer::Done { stores, sum: 0 }
+}
