@@ -1,12 +1,12 @@
--- `c_calls::tell` meets its contract. Assumes nothing.
+-- `c_numbers::tell` meets its contract. Assumes nothing.
 use mathlib.Core.Path.{sym, ap, _∙_}
 use native.Mathlib.Omega.{arith}
 use borrow.Author.Needs.{needs}
 use Rattle.words.specs.Bytes.{bytesOf}
 use Rattle.answer.specs.Answer.{codeOf, storesOf, firstOf, secondOf, valuesOf}
 use Rattle.answer.specs.declared.Answer.{Answer}
-use Rattle.c_calls.proofs.tell.Statement.{statement}
-use Rattle.c_calls.proofs.tell.Tie as tie
+use Rattle.c_numbers.proofs.tell.Statement.{statement}
+use Rattle.c_numbers.proofs.tell.Tie as tie
 
 enum-known-answer : tie.Need-enum-known-answer
 enum-known-answer c = search needs

@@ -1,12 +1,12 @@
--- `c_calls::put_numbers` meets its contract. Assumes nothing.
+-- `c_numbers::put_numbers` meets its contract. Assumes nothing.
 use mathlib.Core.Path.{ap, _∙_}
 use borrow.Author.Needs.{needs}
 use Prim.Native.Nat.{ℕ}
 use mathlib.Core.List.{List}
 use Rattle.words.specs.Bytes.{toLe, put}
-use Rattle.c_calls.proofs.Told.{numbers-put}
-use Rattle.c_calls.proofs.put_numbers.Statement.{statement}
-use Rattle.c_calls.proofs.put_numbers.Tie as tie
+use Rattle.c_numbers.proofs.Numbers.{numbers-put}
+use Rattle.c_numbers.proofs.put_numbers.Statement.{statement}
+use Rattle.c_numbers.proofs.put_numbers.Tie as tie
 
 store64-requires : tie.Need-store64-requires
 store64-requires c κs = search needs
