@@ -5,13 +5,13 @@ use mathlib.Core.List.{List, [], _∷_, _++_}
 use Prim.Native.Nat.{ℕ}
 use Rattle.calls.specs.Call.{Module}
 use Rattle.commands.specs.declared.Command.{Command}
-use Rattle.commands.specs.declared.Number.{Number}
-use Rattle.commands.specs.declared.Number.the-variants.{Empty, Value, Bad}
+use Rattle.decimal.specs.declared.Number.{Number}
+use Rattle.decimal.specs.declared.Number.the-variants.{Empty, Value, Bad}
 use Rattle.commands.specs.declared.Parser.{Parser}
 use Rattle.commands.specs.declared.Parser.the-variants.{Start, Letter, First, Second, Other}
 use Rattle.commands.specs.Language.{commandOf, isSpace}
 use Rattle.commands.specs.Machine.{next, fed, afterByte, afterSpace, secondPart}
-use Rattle.commands.proofs.Parsed.{parsed}
+use Rattle.parsing.proofs.Parsed.{parsed}
 use Rattle.bench_program.specs.Session.{State, allowanceAfter, told, lineEnded, byteTaken, bytesTaken, hasLine, inputEnded}
 use Rattle.bench_program.proofs.Laws.{newline, no-newline, taken-more}
 

@@ -195,7 +195,7 @@ fn take_byte(
     }
     let parser = session.parser;
     Session {
-        parser: commands::step(parser, b),
+        parser: parsing::step(parser, b),
         allowance: session.allowance,
     }
 }

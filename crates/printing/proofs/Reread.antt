@@ -9,9 +9,9 @@ use native.Mathlib.Omega.{arith}
 use borrow.Author.Tests.{lt-ltb, le-ltb, le-leb}
 use lib.ListN.{length, getD, length-append, List·getD-append}
 use Rattle.words.proofs.Order.{lt-or-ge}
-use Rattle.commands.specs.declared.Number.the-variants.{Value, Bad}
-use Rattle.commands.specs.Decimal.{isDigit, allDigits, valueFrom, below64, decimal}
-use Rattle.commands.proofs.Numbers.{fits}
+use Rattle.decimal.specs.declared.Number.the-variants.{Value, Bad}
+use Rattle.decimal.specs.Decimal.{isDigit, allDigits, valueFrom, below64, decimal}
+use Rattle.decimal.proofs.Numbers.{fits}
 use Rattle.printing.specs.Printed.{digitsOf, printed}
 
 -- ---- a digit behind digits

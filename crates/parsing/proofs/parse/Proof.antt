@@ -1,17 +1,17 @@
--- `commands::parse` meets its contract. Assumes nothing.
+-- `parsing::parse` meets its contract. Assumes nothing.
 use mathlib.Core.Path.{_≡_, sym, ap, _∙_}
 use mathlib.Core.List.{List}
 use Prim.Native.Nat.{ℕ, _+_, _-_, _≤_, _<_, zero-le}
 use native.Mathlib.Omega.{arith}
 use borrow.Author.Needs.{needs}
 use lib.ListN.{length, drop, drop-of-length-le}
 use Rattle.commands.specs.declared.Parser.{Parser}
 use Rattle.commands.specs.Language.{commandOf}
 use Rattle.commands.specs.Machine.{found, fed}
-use Rattle.commands.proofs.Parsed.{parsed}
-use Rattle.commands.proofs.Steps.{byte-more}
-use Rattle.commands.proofs.parse.Statement.{statement}
-use Rattle.commands.proofs.parse.Tie as tie
+use Rattle.parsing.proofs.Parsed.{parsed}
+use Rattle.parsing.proofs.Steps.{byte-more}
+use Rattle.parsing.proofs.parse.Statement.{statement}
+use Rattle.parsing.proofs.parse.Tie as tie
 
 abbrev Inv-loop : tie.InvT-loop
 Inv-loop line parser₀ i₀ parser i = (i ≤ length line) × (found (fed parser (drop i line)) ≡ commandOf line)

@@ -1,11 +1,11 @@
--- `commands::after_byte` meets its contract. Assumes nothing.
+-- `parsing::after_byte` meets its contract. Assumes nothing.
 use mathlib.Core.Path.{sym, ap, _∙_}
 use borrow.Author.Needs.{needs}
 use Rattle.commands.specs.declared.Parser.{Parser}
 use Rattle.commands.specs.declared.Parser.the-variants.{First, Second}
 use Rattle.commands.specs.Machine.{afterByte}
-use Rattle.commands.proofs.after_byte.Statement.{statement}
-use Rattle.commands.proofs.after_byte.Tie as tie
+use Rattle.parsing.proofs.after_byte.Statement.{statement}
+use Rattle.parsing.proofs.after_byte.Tie as tie
 
 enum-told : tie.Need-enum-told
 enum-told c = search needs

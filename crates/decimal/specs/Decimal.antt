@@ -3,8 +3,8 @@ use mathlib.Core.Bool.{Bool, true, _&&_, cond}
 use mathlib.Core.List.{List, [], _∷_}
 use Prim.Native.Nat.{ℕ, _+_, _-_, _*_, _^_}
 use lib.Dec.{ltb, leb}
-use Rattle.commands.specs.declared.Number.{Number}
-use Rattle.commands.specs.declared.Number.the-variants.{Empty, Value, Bad}
+use Rattle.decimal.specs.declared.Number.{Number}
+use Rattle.decimal.specs.declared.Number.the-variants.{Empty, Value, Bad}
 
 unfoldable pub isDigit : ℕ → Bool
 isDigit b = leb 48 b && leb b 57
@@ -25,3 +25,12 @@ below64 n = cond (ltb n (2 ^ 64)) (Value n) Bad
 unfoldable pub decimal : List ℕ → Number
 decimal [] = Empty
 decimal (b ∷ bs) = cond (allDigits (b ∷ bs)) (below64 (valueFrom 0 (b ∷ bs))) Bad
+
+-- a number and one byte more
+unfoldable pub digitAfter : ℕ → ℕ → Number
+digitAfter n b = cond (isDigit b) (below64 (10 * n + (b - 48))) Bad
+
+unfoldable pub withDigit : Number → ℕ → Number
+withDigit Empty b = digitAfter 0 b
+withDigit (Value n) b = digitAfter n b
+withDigit Bad b = Bad

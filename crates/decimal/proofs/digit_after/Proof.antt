@@ -1,9 +1,9 @@
--- `commands::digit_after` meets its contract. Assumes nothing.
+-- `decimal::digit_after` meets its contract. Assumes nothing.
 use native.Mathlib.Omega.{arith}
 use borrow.Author.Needs.{needs}
-use Rattle.commands.proofs.Numbers.{too-small, too-large, too-many, one-more}
-use Rattle.commands.proofs.digit_after.Statement.{statement}
-use Rattle.commands.proofs.digit_after.Tie as tie
+use Rattle.decimal.proofs.Numbers.{too-small, too-large, too-many, one-more}
+use Rattle.decimal.proofs.digit_after.Statement.{statement}
+use Rattle.decimal.proofs.digit_after.Tie as tie
 
 returns : tie.Need-returns
 returns c = too-small _ _ (omega arith)

@@ -1,10 +1,10 @@
--- `commands::step` meets its contract. Assumes nothing.
+-- `parsing::step` meets its contract. Assumes nothing.
 use mathlib.Core.Path.{_∙_}
 use native.Mathlib.Omega.{arith}
 use borrow.Author.Needs.{needs}
-use Rattle.commands.proofs.Steps.{space, no-space}
-use Rattle.commands.proofs.step.Statement.{statement}
-use Rattle.commands.proofs.step.Tie as tie
+use Rattle.parsing.proofs.Steps.{space, no-space}
+use Rattle.parsing.proofs.step.Statement.{statement}
+use Rattle.parsing.proofs.step.Tie as tie
 
 after-space-requires : tie.Need-after-space-requires
 after-space-requires c κs = search needs

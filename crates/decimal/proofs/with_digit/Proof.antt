@@ -1,10 +1,10 @@
--- `commands::with_digit` meets its contract. Assumes nothing.
+-- `decimal::with_digit` meets its contract. Assumes nothing.
 use mathlib.Core.Path.{sym, ap, _∙_}
 use borrow.Author.Needs.{needs}
-use Rattle.commands.specs.declared.Number.{Number}
-use Rattle.commands.specs.Machine.{withDigit}
-use Rattle.commands.proofs.with_digit.Statement.{statement}
-use Rattle.commands.proofs.with_digit.Tie as tie
+use Rattle.decimal.specs.declared.Number.{Number}
+use Rattle.decimal.specs.Decimal.{withDigit}
+use Rattle.decimal.proofs.with_digit.Statement.{statement}
+use Rattle.decimal.proofs.with_digit.Tie as tie
 
 enum-told : tie.Need-enum-told
 enum-told c = search needs

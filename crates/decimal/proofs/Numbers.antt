@@ -8,10 +8,9 @@ use native.Mathlib.Nat.{le-refl, le-trans}
 use native.Mathlib.Omega.{arith}
 use borrow.Author.Tests.{lt-ltb, le-ltb, le-leb, lt-leb}
 use Rattle.words.proofs.Order.{lt-or-ge}
-use Rattle.commands.specs.declared.Number.{Number}
-use Rattle.commands.specs.declared.Number.the-variants.{Empty, Value, Bad}
-use Rattle.commands.specs.Decimal.{isDigit, allDigits, valueFrom, below64, decimal}
-use Rattle.commands.specs.Machine.{digitAfter, withDigit}
+use Rattle.decimal.specs.declared.Number.{Number}
+use Rattle.decimal.specs.declared.Number.the-variants.{Empty, Value, Bad}
+use Rattle.decimal.specs.Decimal.{isDigit, allDigits, valueFrom, below64, decimal, digitAfter, withDigit}
 
 -- ---- one digit more
 

@@ -4,15 +4,15 @@ use mathlib.Core.Bool.{Bool, true, false, cond}
 use mathlib.Core.List.{List, [], _∷_}
 use Prim.Native.Nat.{ℕ}
 use lib.Dec.{eqb, leb}
-use Rattle.commands.specs.declared.Number.{Number}
-use Rattle.commands.specs.declared.Number.the-variants.{Empty, Value, Bad}
+use Rattle.decimal.specs.declared.Number.{Number}
+use Rattle.decimal.specs.declared.Number.the-variants.{Empty, Value, Bad}
 use Rattle.commands.specs.declared.Command.the-variants.{Write, Read, Allow, Unknown}
 use Rattle.commands.specs.declared.Parser.{Parser}
 use Rattle.commands.specs.declared.Parser.the-variants.{Start, First, Second, Other}
-use Rattle.commands.specs.Decimal.{decimal}
+use Rattle.decimal.specs.Decimal.{decimal, withDigit}
 use Rattle.commands.specs.Language.{isSpace, onFirst, parts, isLetter, given, commandOfParts, commandOf}
-use Rattle.commands.specs.Machine.{withDigit, afterByte, secondPart, afterSpace, next, fed, noNumber, oneNumber, twoNumbers, found}
-use Rattle.commands.proofs.Numbers.{numbered, number-of}
+use Rattle.commands.specs.Machine.{afterByte, secondPart, afterSpace, next, fed, noNumber, oneNumber, twoNumbers, found}
+use Rattle.decimal.proofs.Numbers.{numbered, number-of}
 
 -- ---- a line by its parts
 
