@@ -18,7 +18,7 @@ use Rattle.commands.specs.declared.Parser.{Parser}
 use Rattle.commands.specs.declared.Parser.the-variants.{Start}
 use Rattle.commands.specs.Machine.{next, found}
 use Rattle.parsing.proofs.Steps.{byte-more}
-use Rattle.printing.specs.Printed.{lineOf}
+use Rattle.answer_text.specs.Printed.{lineOf}
 use Rattle.bench_program.specs.Session.{ranTo, ran, settled, unlimited, allowanceAfter, Told, toldTo, settledTo, told}
 use Rattle.bench_program.specs.Session.{State, stateOf, lineEnded, byteTaken, bytesTaken, hasLine, inputEnded, started, Took, Served}
 

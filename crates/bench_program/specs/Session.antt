@@ -16,7 +16,7 @@ use Rattle.commands.specs.declared.Command.the-variants.{Write, Read, Recover, 
 use Rattle.commands.specs.declared.Parser.{Parser}
 use Rattle.commands.specs.declared.Parser.the-variants.{Start, Letter, First, Second, Other}
 use Rattle.commands.specs.Machine.{next, found}
-use Rattle.printing.specs.Printed.{lineOf}
+use Rattle.answer_text.specs.Printed.{lineOf}
 
 -- a call, and the first byte of its output
 pub record Ran : Type 0 where

@@ -1,13 +1,13 @@
--- `printing::spell` meets its contract. Assumes nothing.
+-- `number_text::spell` meets its contract. Assumes nothing.
 use mathlib.Core.Path.{_≡_, _∙_}
 use mathlib.Core.List.{_++_}
 use Prim.Native.Nat.{suc, _≤_, _<_, _^_}
 use native.Mathlib.Omega.{arith}
 use lib.ListN.{length, drop, length-set}
-use Rattle.printing.specs.Printed.{digitsOf, printed}
-use Rattle.printing.proofs.Spelled.{spelled-first, digit-next, digit-last, digit-room}
-use Rattle.printing.proofs.spell.Statement.{statement}
-use Rattle.printing.proofs.spell.Tie as tie
+use Rattle.number_text.specs.Text.{digitsOf, printed}
+use Rattle.number_text.proofs.Spelled.{spelled-first, digit-next, digit-last, digit-room}
+use Rattle.number_text.proofs.spell.Statement.{statement}
+use Rattle.number_text.proofs.spell.Tie as tie
 
 abbrev Inv-loop : tie.InvT-loop
 Inv-loop n s₀ i₀ x₀ s i x = (i < 20) × ((x < 10 ^ suc i) × ((digitsOf (suc i) x ++ drop (suc i) s ≡ printed n) × (length s ≡ 20)))

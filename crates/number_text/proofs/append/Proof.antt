@@ -1,4 +1,4 @@
--- `printing::append` meets its contract. Assumes nothing.
+-- `number_text::append` meets its contract. Assumes nothing.
 use mathlib.Core.Path.{refl, ap, _∙_}
 use mathlib.Core.List.{List}
 use Prim.Native.Nat.{ℕ}
@@ -6,9 +6,9 @@ use native.Mathlib.Omega.{arith}
 use borrow.Author.Needs.{needs}
 use lib.Seq.{take-length}
 use Rattle.words.specs.Bytes.{put}
-use Rattle.printing.proofs.Spelled.{appended-put}
-use Rattle.printing.proofs.append.Statement.{statement}
-use Rattle.printing.proofs.append.Tie as tie
+use Rattle.number_text.proofs.Spelled.{appended-put}
+use Rattle.number_text.proofs.append.Statement.{statement}
+use Rattle.number_text.proofs.append.Tie as tie
 
 copy-requires : tie.Need-copy-requires
 copy-requires c κs = search needs

@@ -12,7 +12,7 @@ use Rattle.words.proofs.Order.{lt-or-ge}
 use Rattle.decimal.specs.declared.Number.the-variants.{Value, Bad}
 use Rattle.decimal.specs.Decimal.{isDigit, allDigits, valueFrom, below64, decimal}
 use Rattle.decimal.proofs.Numbers.{fits}
-use Rattle.printing.specs.Printed.{digitsOf, printed}
+use Rattle.number_text.specs.Text.{digitsOf, printed}
 
 -- ---- a digit behind digits
 

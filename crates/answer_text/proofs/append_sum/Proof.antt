@@ -1,11 +1,11 @@
--- `printing::append_sum` meets its contract. Assumes nothing.
+-- `answer_text::append_sum` meets its contract. Assumes nothing.
 use mathlib.Core.Path.{sym, ap}
 use native.Mathlib.Omega.{arith}
 use borrow.Author.Needs.{needs}
-use Rattle.printing.specs.Printed.{recoverText}
-use Rattle.printing.proofs.Spelled.{retold, appended-none}
-use Rattle.printing.proofs.append_sum.Statement.{statement}
-use Rattle.printing.proofs.append_sum.Tie as tie
+use Rattle.answer_text.specs.Printed.{recoverText}
+use Rattle.number_text.proofs.Spelled.{retold, appended-none}
+use Rattle.answer_text.proofs.append_sum.Statement.{statement}
+use Rattle.answer_text.proofs.append_sum.Tie as tie
 
 enum-known-answer : tie.Need-enum-known-answer
 enum-known-answer c = search needs

@@ -1,12 +1,12 @@
--- `printing::append_first` meets its contract. Assumes nothing.
+-- `answer_text::append_first` meets its contract. Assumes nothing.
 use mathlib.Core.Path.{sym, ap}
 use native.Mathlib.Omega.{arith}
 use borrow.Author.Needs.{needs}
 use Rattle.answer.specs.declared.Answer.{Answer}
-use Rattle.printing.specs.Printed.{readText}
-use Rattle.printing.proofs.Spelled.{retold, appended-none}
-use Rattle.printing.proofs.append_first.Statement.{statement}
-use Rattle.printing.proofs.append_first.Tie as tie
+use Rattle.answer_text.specs.Printed.{readText}
+use Rattle.number_text.proofs.Spelled.{retold, appended-none}
+use Rattle.answer_text.proofs.append_first.Statement.{statement}
+use Rattle.answer_text.proofs.append_first.Tie as tie
 
 enum-told : tie.Need-enum-told
 enum-told c = search needs

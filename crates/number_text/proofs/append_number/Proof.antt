@@ -1,9 +1,9 @@
--- `printing::append_number` meets its contract. Assumes nothing.
+-- `number_text::append_number` meets its contract. Assumes nothing.
 use native.Mathlib.Omega.{arith}
 use borrow.Author.Needs.{needs}
-use Rattle.printing.proofs.Spelled.{appended-number}
-use Rattle.printing.proofs.append_number.Statement.{statement}
-use Rattle.printing.proofs.append_number.Tie as tie
+use Rattle.number_text.proofs.Spelled.{appended-number}
+use Rattle.number_text.proofs.append_number.Statement.{statement}
+use Rattle.number_text.proofs.append_number.Tie as tie
 
 append-requires : tie.Need-append-requires
 append-requires c κs = search needs

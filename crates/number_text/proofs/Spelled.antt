@@ -9,8 +9,7 @@ use lib.ListN.{length, take, drop, set, length-append, length-drop, drop-of-leng
 use lib.Seq.{drop-cons, drop-set-lt, getD-set-same, length-take-le, take-append-add, take-at, take-all, lt-length-set}
 use Rattle.words.specs.Bytes.{part, put}
 use Rattle.words.proofs.Parts.{length-put}
-use Rattle.printing.specs.Printed.{digitsOf, printed}
-use Rattle.printing.specs.Printed.{Appended}
+use Rattle.number_text.specs.Text.{digitsOf, printed, Appended}
 
 -- ---- digits
 

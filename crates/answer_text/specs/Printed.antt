@@ -1,23 +1,11 @@
 -- What the bench program prints for a command: bytes, with the newline. Assumes nothing.
-use mathlib.Core.Path.{_≡_}
-use mathlib.Core.Bool.{cond}
 use mathlib.Core.List.{List, [], _∷_, _++_}
-use Prim.Native.Nat.{ℕ, zero, suc, _+_, _/_, _%_}
-use lib.Dec.{ltb}
-use lib.ListN.{length, take}
+use Prim.Native.Nat.{ℕ}
 use Rattle.answer.specs.declared.Answer.{Answer}
 use Rattle.answer.specs.declared.Answer.the-variants.{Done, Blank, Cut, Refused}
 use Rattle.commands.specs.declared.Command.{Command}
 use Rattle.commands.specs.declared.Command.the-variants.{Write, Read, Recover, Allow, Unknown}
-
--- x printed: no leading zero, and at most n digits
-unfoldable pub digitsOf : ℕ → ℕ → List ℕ
-digitsOf zero x = []
-digitsOf (suc n) x = cond (ltb x 10) ((48 + x) ∷ []) (digitsOf n (x / 10) ++ ((48 + x % 10) ∷ []))
-
--- a number below 2^64 has at most 20
-unfoldable pub printed : ℕ → List ℕ
-printed x = digitsOf 20 x
+use Rattle.number_text.specs.Text.{printed}
 
 -- ` done STORES`, ` blank STORES`, ` cut STORES`, ` refused NUMBER`
 unfoldable pub answerText : Answer → List ℕ
@@ -56,9 +44,3 @@ lineOf (Read l) a x = readLine l a x
 lineOf Recover a x = recoverLine a
 lineOf (Allow n) a x = []
 lineOf Unknown a x = 63 ∷ 10 ∷ []
-
--- text that is written behind the first `at` bytes of a buffer s leaves t, and ends at r
-pub record Appended (s t : List ℕ) (at r : ℕ) (text : List ℕ) : Type 0 where
-  pub size : length t ≡ length s
-  pub bytes : take r t ≡ take at s ++ text
-  pub end : r ≡ at + length text

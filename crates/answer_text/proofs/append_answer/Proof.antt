@@ -1,11 +1,11 @@
--- `printing::append_answer` meets its contract. Assumes nothing.
+-- `answer_text::append_answer` meets its contract. Assumes nothing.
 use mathlib.Core.Path.{sym, ap}
 use native.Mathlib.Omega.{arith}
 use borrow.Author.Needs.{needs}
-use Rattle.printing.specs.Printed.{answerText}
-use Rattle.printing.proofs.Spelled.{retold}
-use Rattle.printing.proofs.append_answer.Statement.{statement}
-use Rattle.printing.proofs.append_answer.Tie as tie
+use Rattle.answer_text.specs.Printed.{answerText}
+use Rattle.number_text.proofs.Spelled.{retold}
+use Rattle.answer_text.proofs.append_answer.Statement.{statement}
+use Rattle.answer_text.proofs.append_answer.Tie as tie
 
 enum-known-answer : tie.Need-enum-known-answer
 enum-known-answer c = search needs
