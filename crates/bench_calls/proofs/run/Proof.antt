@@ -1,9 +1,9 @@
--- `bench_program::run` meets its contract. Assumes nothing.
+-- `bench_calls::run` meets its contract. Assumes nothing.
 use borrow.Author.Needs.{needs}
 use Rattle.calls.specs.Call.{buffers}
-use Rattle.bench_program.proofs.Laws.{told-run}
-use Rattle.bench_program.proofs.run.Statement.{statement}
-use Rattle.bench_program.proofs.run.Tie as tie
+use Rattle.bench_session.proofs.Laws.{told-run}
+use Rattle.bench_calls.proofs.run.Statement.{statement}
+use Rattle.bench_calls.proofs.run.Tie as tie
 
 call-requires : tie.Need-call-requires
 call-requires c κs = search needs

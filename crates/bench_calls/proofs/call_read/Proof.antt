@@ -1,9 +1,9 @@
--- `bench_program::call_read` meets its contract. Assumes nothing.
+-- `bench_calls::call_read` meets its contract. Assumes nothing.
 use mathlib.Core.Path.{ap}
 use borrow.Author.Needs.{needs}
-use Rattle.bench_program.specs.Session.{ran, readTo}
-use Rattle.bench_program.proofs.call_read.Statement.{statement}
-use Rattle.bench_program.proofs.call_read.Tie as tie
+use Rattle.bench_session.specs.Session.{ran, readTo}
+use Rattle.bench_calls.proofs.call_read.Statement.{statement}
+use Rattle.bench_calls.proofs.call_read.Tie as tie
 
 slice-aggregate-read : tie.Need-slice-aggregate-read
 slice-aggregate-read c = search needs

@@ -1,10 +1,10 @@
--- `bench_program::call_write` meets its contract. Assumes nothing.
+-- `bench_calls::call_write` meets its contract. Assumes nothing.
 use mathlib.Core.Path.{ap}
 use borrow.Author.Needs.{needs}
 use Rattle.calls.specs.Call.{Called}
-use Rattle.bench_program.specs.Session.{ran}
-use Rattle.bench_program.proofs.call_write.Statement.{statement}
-use Rattle.bench_program.proofs.call_write.Tie as tie
+use Rattle.bench_session.specs.Session.{ran}
+use Rattle.bench_calls.proofs.call_write.Statement.{statement}
+use Rattle.bench_calls.proofs.call_write.Tie as tie
 
 slice-aggregate-write : tie.Need-slice-aggregate-write
 slice-aggregate-write c = search needs

@@ -19,8 +19,8 @@ use Rattle.commands.specs.declared.Parser.the-variants.{Start}
 use Rattle.commands.specs.Machine.{next, found}
 use Rattle.parsing.proofs.Steps.{byte-more}
 use Rattle.answer_text.specs.Printed.{lineOf}
-use Rattle.bench_program.specs.Session.{ranTo, ran, settled, unlimited, allowanceAfter, Told, toldTo, settledTo, told}
-use Rattle.bench_program.specs.Session.{State, stateOf, lineEnded, byteTaken, bytesTaken, hasLine, inputEnded, started, Took, Served}
+use Rattle.bench_session.specs.Session.{ranTo, ran, settled, unlimited, allowanceAfter, Told, toldTo, settledTo, told}
+use Rattle.bench_session.specs.Session.{State, stateOf, lineEnded, byteTaken, bytesTaken, hasLine, inputEnded, started, Took, Served}
 
 -- what is not cut keeps the cache
 pub settled-else : (r : Answer) (c : List ℕ) → OneOf (0 ∷ 1 ∷ 3 ∷ []) (tagOf the-type r) → c ≡ settled r c

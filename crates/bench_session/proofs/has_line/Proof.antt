@@ -1,9 +1,9 @@
--- `bench_program::has_line` meets its contract. Assumes nothing.
+-- `bench_session::has_line` meets its contract. Assumes nothing.
 use mathlib.Core.Path.{sym, ap}
 use borrow.Author.Needs.{needs}
-use Rattle.bench_program.specs.Session.{hasLine}
-use Rattle.bench_program.proofs.has_line.Statement.{statement}
-use Rattle.bench_program.proofs.has_line.Tie as tie
+use Rattle.bench_session.specs.Session.{hasLine}
+use Rattle.bench_session.proofs.has_line.Statement.{statement}
+use Rattle.bench_session.proofs.has_line.Tie as tie
 
 enum-told : tie.Need-enum-told
 enum-told c = search needs

@@ -1,10 +1,10 @@
--- `bench_program::call_recover` meets its contract. Assumes nothing.
+-- `bench_calls::call_recover` meets its contract. Assumes nothing.
 use mathlib.Core.Path.{ap}
 use borrow.Author.Needs.{needs}
 use Rattle.calls.specs.Call.{Called}
-use Rattle.bench_program.specs.Session.{ran}
-use Rattle.bench_program.proofs.call_recover.Statement.{statement}
-use Rattle.bench_program.proofs.call_recover.Tie as tie
+use Rattle.bench_session.specs.Session.{ran}
+use Rattle.bench_calls.proofs.call_recover.Statement.{statement}
+use Rattle.bench_calls.proofs.call_recover.Tie as tie
 
 recover-requires : tie.Need-recover-requires
 recover-requires c κs = search needs

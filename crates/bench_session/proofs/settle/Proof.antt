@@ -1,13 +1,13 @@
--- `bench_program::settle` meets its contract. Assumes nothing.
+-- `bench_session::settle` meets its contract. Assumes nothing.
 use mathlib.Core.Path.{sym, ap, _∙_}
 use borrow.Author.Needs.{needs}
 use lib.ListN.{length, replicate, length-replicate}
 use Rattle.words.proofs.Parts.{put-all}
 use Rattle.answer.specs.declared.Answer.{Answer}
-use Rattle.bench_program.specs.Session.{settled}
-use Rattle.bench_program.proofs.Laws.{settled-else}
-use Rattle.bench_program.proofs.settle.Statement.{statement}
-use Rattle.bench_program.proofs.settle.Tie as tie
+use Rattle.bench_session.specs.Session.{settled}
+use Rattle.bench_session.proofs.Laws.{settled-else}
+use Rattle.bench_session.proofs.settle.Statement.{statement}
+use Rattle.bench_session.proofs.settle.Tie as tie
 
 enum-told : tie.Need-enum-told
 enum-told c = search needs

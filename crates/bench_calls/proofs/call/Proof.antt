@@ -1,11 +1,11 @@
--- `bench_program::call` meets its contract. Assumes nothing.
+-- `bench_calls::call` meets its contract. Assumes nothing.
 use mathlib.Core.Path.{sym, ap, _∙_}
 use borrow.Author.Needs.{needs}
 use Rattle.calls.specs.Call.{buffers}
 use Rattle.commands.specs.declared.Command.{Command}
-use Rattle.bench_program.specs.Session.{Ran, ran}
-use Rattle.bench_program.proofs.call.Statement.{statement}
-use Rattle.bench_program.proofs.call.Tie as tie
+use Rattle.bench_session.specs.Session.{Ran, ran}
+use Rattle.bench_calls.proofs.call.Statement.{statement}
+use Rattle.bench_calls.proofs.call.Tie as tie
 
 -- a command run on what is lent
 abbrev ranAt : tie.Start → Command → Ran

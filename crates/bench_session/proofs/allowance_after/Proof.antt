@@ -1,10 +1,10 @@
--- `bench_program::allowance_after` meets its contract. Assumes nothing.
+-- `bench_session::allowance_after` meets its contract. Assumes nothing.
 use mathlib.Core.Path.{sym, ap}
 use borrow.Author.Needs.{needs}
 use Rattle.commands.specs.declared.Command.{Command}
-use Rattle.bench_program.specs.Session.{allowanceAfter}
-use Rattle.bench_program.proofs.allowance_after.Statement.{statement}
-use Rattle.bench_program.proofs.allowance_after.Tie as tie
+use Rattle.bench_session.specs.Session.{allowanceAfter}
+use Rattle.bench_session.proofs.allowance_after.Statement.{statement}
+use Rattle.bench_session.proofs.allowance_after.Tie as tie
 
 enum-told : tie.Need-enum-told
 enum-told c = search needs

@@ -12,8 +12,8 @@ use Rattle.commands.specs.declared.Parser.the-variants.{Start, Letter, First, S
 use Rattle.commands.specs.Language.{commandOf, isSpace}
 use Rattle.commands.specs.Machine.{next, fed, afterByte, afterSpace, secondPart}
 use Rattle.parsing.proofs.Parsed.{parsed}
-use Rattle.bench_program.specs.Session.{State, allowanceAfter, told, lineEnded, byteTaken, bytesTaken, hasLine, inputEnded}
-use Rattle.bench_program.proofs.Laws.{newline, no-newline, taken-more}
+use Rattle.bench_session.specs.Session.{State, allowanceAfter, told, lineEnded, byteTaken, bytesTaken, hasLine, inputEnded}
+use Rattle.bench_session.proofs.Laws.{newline, no-newline, taken-more}
 
 -- a line: bytes other than the newline
 pub data Line : List ℕ → Type 0 where
