@@ -1,145 +1,13 @@
 // The bench program: formats a module of depth 1, runs the commands of its standard input on it, and prints a line for each.
 ghost use mathlib.Core.Path.{_≡_};
-ghost use Prim.Native.Nat.{_≤_};
-ghost use lib.ListN.{length, take};
-ghost use Rattle.commands.specs.declared.Command.the-variants.{Write, Read, Recover};
 ghost use Rattle.calls.specs.Call.{buffers};
-ghost use Rattle.bench_program.specs.Session.{ranTo, ran as ranOf, settled, allowanceAfter, toldTo, told};
-ghost use Rattle.bench_program.specs.Session.{stateOf, lineEnded, byteTaken, bytesTaken, hasLine, Took, Served};
-use answer::Answer;
-use commands::Command;
+ghost use Rattle.bench_session.specs.Session.{stateOf, lineEnded, byteTaken, bytesTaken, Took, Served};
+use bench_calls::run;
+use bench_session::allowance_after;
+use bench_session::has_line;
 use commands::Parser;
 use libc::STDIN_FILENO;
 use libc::STDOUT_FILENO;
-
-// What a call answered, and the first byte that it read.
-struct Outcome {
-    answer: Answer,
-    first: u8,
-}
-
-fn call_write(
-    keys: &[u8],
-    control: &mut [u8],
-    array: &mut [u8],
-    cache: &mut [u8],
-    line: u64,
-    byte: u8,
-    allowance: u64,
-) -> Outcome
-    ensures { λ r. ⌜ ranTo (r .answer) (r .first) (now (array .exit)) (now (control .exit)) (now (cache .exit))
-        ≡ ranOf (now (keys .entry)) (Write line byte) allowance
-        (buffers (now (array .entry)) (now (control .entry)) (now (cache .entry))) ⌝ }
-{
-    let text = [byte; 64];
-    let answer = write::write(keys, control, array, cache, line, &text, allowance);
-    Outcome { answer, first: 0 }
-}
-
-fn call_read(
-    keys: &[u8],
-    control: &mut [u8],
-    array: &mut [u8],
-    cache: &mut [u8],
-    line: u64,
-    allowance: u64,
-) -> Outcome
-    ensures { λ r. ⌜ ranTo (r .answer) (r .first) (now (array .exit)) (now (control .exit)) (now (cache .exit))
-        ≡ ranOf (now (keys .entry)) (Read line) allowance (buffers (now (array .entry)) (now (control .entry)) (now (cache .entry))) ⌝ }
-{
-    let mut out = [0u8; 64];
-    let answer = read::read(keys, control, array, cache, line, &mut out, allowance);
-    Outcome {
-        answer,
-        first: out[0],
-    }
-}
-
-fn call_recover(
-    keys: &[u8],
-    control: &mut [u8],
-    array: &mut [u8],
-    cache: &mut [u8],
-    allowance: u64,
-) -> Outcome
-    ensures { λ r. ⌜ ranTo (r .answer) (r .first) (now (array .exit)) (now (control .exit)) (now (cache .exit))
-        ≡ ranOf (now (keys .entry)) Recover allowance (buffers (now (array .entry)) (now (control .entry)) (now (cache .entry))) ⌝ }
-{
-    let answer = recovery::recover(keys, control, array, cache, allowance);
-    Outcome { answer, first: 0 }
-}
-
-// Makes the call of a command.
-fn call(
-    keys: &[u8],
-    control: &mut [u8],
-    array: &mut [u8],
-    cache: &mut [u8],
-    command: Command,
-    allowance: u64,
-) -> Outcome
-    ensures { λ r. ⌜ ranTo (r .answer) (r .first) (now (array .exit)) (now (control .exit)) (now (cache .exit))
-        ≡ ranOf (now (keys .entry)) command allowance (buffers (now (array .entry)) (now (control .entry)) (now (cache .entry))) ⌝ }
-{
-    match command {
-        Command::Write { line, byte } => {
-            call_write(keys, control, array, cache, line, byte, allowance)
-        }
-        Command::Read { line } => call_read(keys, control, array, cache, line, allowance),
-        Command::Recover => call_recover(keys, control, array, cache, allowance),
-        Command::Allow { n: _ } => Outcome {
-            answer: Answer::Done { stores: 0, sum: 0 },
-            first: 0,
-        },
-        Command::Unknown => Outcome {
-            answer: Answer::Done { stores: 0, sum: 0 },
-            first: 0,
-        },
-    }
-}
-
-// A cut zeroes the cache.
-fn settle(cache: &mut [u8], answer: Answer)
-    ensures { λ _. ⌜ now (cache .exit) ≡ settled answer (now (cache .entry)) ⌝ }
-{
-    if let Answer::Cut { stores: _ } = answer {
-        let n = cache.len();
-        copying::zero(cache, 0, n);
-    }
-}
-
-fn allowance_after(command: Command, allowance: u64) -> u64
-    ensures { λ r. ⌜ r ≡ allowanceAfter command allowance ⌝ }
-{
-    match command {
-        Command::Write { line: _, byte: _ } => u64::MAX,
-        Command::Read { line: _ } => u64::MAX,
-        Command::Recover => u64::MAX,
-        Command::Allow { n } => n,
-        Command::Unknown => allowance,
-    }
-}
-
-// Runs a command and writes the line that it prints; tells the length of the line.
-fn run(
-    keys: &[u8],
-    control: &mut [u8],
-    array: &mut [u8],
-    cache: &mut [u8],
-    command: Command,
-    allowance: u64,
-    line: &mut [u8],
-) -> usize
-    requires { ⌜ length (now line) ≡ 80 ⌝ }
-    ensures { λ r. ⌜ toldTo (now (array .exit)) (now (control .exit)) (now (cache .exit)) (take r (now (line .exit)))
-        ≡ told (now (keys .entry)) command allowance (buffers (now (array .entry)) (now (control .entry)) (now (cache .entry))) ⌝ }
-    ensures { λ r. ⌜ r ≤ 80 ⌝ }
-{
-    let outcome = call(keys, control, array, cache, command, allowance);
-    let answer = outcome.answer;
-    settle(cache, answer);
-    printing::print(line, command, answer, outcome.first)
-}
 
 // What is kept between two bytes of the input.
 struct Session {
@@ -195,7 +63,7 @@ fn take_byte(
     }
     let parser = session.parser;
     Session {
-        parser: commands::step(parser, b),
+        parser: parsing::step(parser, b),
         allowance: session.allowance,
     }
 }
@@ -246,26 +114,6 @@ fn turn(
     Taken {
         session: take_bytes(keys, control, array, cache, session, &input[..n]),
         ended: n == 0,
-    }
-}
-
-// Whether a last line is there.
-fn has_line(parser: Parser) -> bool
-    ensures { λ r. ⌜ r ≡ hasLine parser ⌝ }
-{
-    match parser {
-        Parser::Start => false,
-        Parser::Letter { letter: _ } => true,
-        Parser::First {
-            letter: _,
-            number: _,
-        } => true,
-        Parser::Second {
-            letter: _,
-            first: _,
-            number: _,
-        } => true,
-        Parser::Other => true,
     }
 }
 

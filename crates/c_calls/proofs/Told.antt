@@ -1,33 +1,20 @@
 -- What the C side is told, by the length of the buffer for the numbers. Assumes nothing.
-use mathlib.Core.Path.{_≡_, refl, sym, ap, _∙_, subst}
-use mathlib.Core.List.{List, [], _∷_, _++_, append-nil}
+use mathlib.Core.Path.{_≡_, refl, ap, _∙_, subst}
+use mathlib.Core.List.{List}
 use Prim.Native.Nat.{ℕ, zero, suc, _<_}
 use native.Mathlib.Omega.{arith}
 use borrow.Author.Tests.{eq-eqb, ne-eqb}
-use lib.ListN.{length, length-append}
-use Rattle.words.specs.Bytes.{toLe, put, bytesOf}
-use Rattle.words.proofs.Digits.{length-digits}
-use Rattle.words.proofs.Parts.{put-three, put-all}
+use lib.ListN.{length}
+use Rattle.words.specs.Bytes.{bytesOf}
 use Rattle.answer.specs.Answer.{codeOf, valuesOf}
 use Rattle.answer.specs.declared.Answer.{Answer}
 use Rattle.answer.specs.declared.Answer.the-variants.{Done, Refused}
 use Rattle.calls.specs.Call.{Module, Called}
+use Rattle.calls.specs.Read.{Reading}
 use Rattle.calls.specs.DirtyPages.{listRefusal, Lists, ListCall}
 use Rattle.calls.specs.ForC.{codeForC, bufferForC, leftForC}
 use Rattle.c_calls.specs.Listed.{listAnswer, ListLeft}
 use Rattle.c_calls.proofs.Codes.{Fits}
-
--- three numbers, one after the other
-pub numbers-put : (s : List ℕ) (x y z : ℕ) → length s ≡ 24
-    → put (put (put s 0 (toLe 8 x)) 8 (toLe 8 y)) 16 (toLe 8 z) ≡ bytesOf 8 (x ∷ y ∷ z ∷ [])
-unfolding bytesOf
-numbers-put s x y z e =
-    let a = length-digits 256 8 x in
-    let b = length-digits 256 8 y in
-    let c = length-digits 256 8 z in
-    put-three s 0 (toLe 8 x) (toLe 8 y) (toLe 8 z) 8 16 (omega arith) (omega arith) (omega arith)
-    ∙ put-all s _ (omega (arith, length-append (toLe 8 x) (toLe 8 y ++ toLe 8 z), length-append (toLe 8 y) (toLe 8 z)))
-    ∙ ap (λ (l : List ℕ). toLe 8 x ++ (toLe 8 y ++ l)) (sym (append-nil (toLe 8 z)))
 
 -- another length than 24
 module _ (numbers : List ℕ) (wrong : length numbers ≡ 24 → ⊥) where
@@ -46,6 +33,11 @@ module _ (numbers : List ℕ) (wrong : length numbers ≡ 24 → ⊥) where
   pub wrong-call : (m : Module) (x : Called)
       → (107 ≡ codeForC numbers (x .answer)) × ((numbers ≡ bufferForC numbers (x .answer)) × (m ≡ leftForC numbers m (x .after)))
   wrong-call m x = (wrong-code (x .answer), (wrong-buffer (x .answer), wrong-left m (x .after)))
+
+  pub wrong-read : (m : Module) (out : List ℕ) (x : Reading)
+      → (107 ≡ codeForC numbers (x .called .answer)) × ((numbers ≡ bufferForC numbers (x .called .answer))
+      × ((m ≡ leftForC numbers m (x .called .after)) × (out ≡ leftForC numbers out (x .output))))
+  wrong-read m out x = let all = wrong-call m (x .called) in (all .0, (all .1 .0, (all .1 .1, wrong-left out (x .output))))
 
 -- 24
 module _ (numbers : List ℕ) (right : length numbers ≡ 24) where
@@ -68,9 +60,22 @@ module _ (numbers : List ℕ) (right : length numbers ≡ 24) where
       let same = ap (λ (z : Called). z .answer) e in
       (right-code r f same, (right-buffer n g same, right-left m (x .after) l (ap (λ (z : Called). z .after) e)))
 
+  pub right-read : (m : Module) (out : List ℕ) {x : Reading} {b : Answer} {l : Module} {o : List ℕ}
+      → record { called = record { answer = b; after = l }; output = o } ≡ x
+      → {r : ℕ} → r ≡ codeOf b → {n : List ℕ} → n ≡ bytesOf 8 (valuesOf b)
+      → (r ≡ codeForC numbers (x .called .answer)) × ((n ≡ bufferForC numbers (x .called .answer))
+      × ((l ≡ leftForC numbers m (x .called .after)) × (o ≡ leftForC numbers out (x .output))))
+  right-read m out {x} {b} {l} {o} e f g =
+      let all = right-call m (ap (λ (z : Reading). z .called) e) f g in
+      (all .0, (all .1 .0, (all .1 .1, right-left out (x .output) o (ap (λ (z : Reading). z .output) e))))
+
 -- the code of a call is small
 pub code-small : {x : Called} {b : Answer} {l : Module} → record { answer = b; after = l } ≡ x → Fits x → codeOf b < 200
 code-small e p = omega (arith, ap (λ (z : Called). codeOf (z .answer)) e, p .code)
+
+pub read-small : {x : Reading} {b : Answer} {l : Module} {o : List ℕ}
+    → record { called = record { answer = b; after = l }; output = o } ≡ x → Fits (x .called) → codeOf b < 200
+read-small e p = code-small (ap (λ (z : Reading). z .called) e) p
 
 -- ---- the list of dirty pages
 

@@ -1,3 +1,1 @@
-pub mod Numbers
-pub mod Parsed
-pub mod Steps
+pub mod Letters

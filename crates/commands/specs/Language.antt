@@ -3,11 +3,11 @@ use mathlib.Core.Bool.{Bool, false, cond}
 use mathlib.Core.List.{List, [], _∷_}
 use Prim.Native.Nat.{ℕ}
 use lib.Dec.{leb, eqb}
-use Rattle.commands.specs.declared.Number.{Number}
-use Rattle.commands.specs.declared.Number.the-variants.{Empty, Value, Bad}
+use Rattle.decimal.specs.declared.Number.{Number}
+use Rattle.decimal.specs.declared.Number.the-variants.{Empty, Value, Bad}
 use Rattle.commands.specs.declared.Command.{Command}
 use Rattle.commands.specs.declared.Command.the-variants.{Write, Read, Recover, Allow, Unknown}
-use Rattle.commands.specs.Decimal.{decimal}
+use Rattle.decimal.specs.Decimal.{decimal}
 
 abbrev pub isSpace : ℕ → Bool
 isSpace b = eqb b 32

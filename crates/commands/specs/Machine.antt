@@ -1,26 +1,17 @@
 -- The parser: what it keeps of a line's bytes so far, byte by byte, so that a line may be of any length. That it finds the command
--- of the language is `proofs/Parsed.antt`. Assumes nothing.
+-- of the language is `proofs/Parsed.antt` of `parsing`. Assumes nothing.
 use mathlib.Core.Bool.{cond}
 use mathlib.Core.List.{List, [], _∷_}
-use Prim.Native.Nat.{ℕ, _+_, _-_, _*_}
+use Prim.Native.Nat.{ℕ}
 use lib.Dec.{leb, eqb}
-use Rattle.commands.specs.declared.Number.{Number}
-use Rattle.commands.specs.declared.Number.the-variants.{Empty, Value, Bad}
+use Rattle.decimal.specs.declared.Number.{Number}
+use Rattle.decimal.specs.declared.Number.the-variants.{Empty, Value, Bad}
 use Rattle.commands.specs.declared.Command.{Command}
 use Rattle.commands.specs.declared.Command.the-variants.{Write, Read, Recover, Allow, Unknown}
 use Rattle.commands.specs.declared.Parser.{Parser}
 use Rattle.commands.specs.declared.Parser.the-variants.{Start, Letter, First, Second, Other}
-use Rattle.commands.specs.Decimal.{isDigit, below64}
+use Rattle.decimal.specs.Decimal.{withDigit}
 use Rattle.commands.specs.Language.{isSpace, given}
-
--- a number and one byte more
-unfoldable pub digitAfter : ℕ → ℕ → Number
-digitAfter n b = cond (isDigit b) (below64 (10 * n + (b - 48))) Bad
-
-unfoldable pub withDigit : Number → ℕ → Number
-withDigit Empty b = digitAfter 0 b
-withDigit (Value n) b = digitAfter n b
-withDigit Bad b = Bad
 
 -- a byte other than a space
 unfoldable pub afterByte : Parser → ℕ → Parser

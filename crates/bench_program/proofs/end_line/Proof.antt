@@ -6,7 +6,7 @@ use borrow.Author.Needs.{needs}
 use lib.ListN.{length}
 use lib.Seq.{length-take-le}
 use Rattle.calls.specs.Call.{buffers}
-use Rattle.bench_program.proofs.Laws.{line-run}
+use Rattle.bench_session.proofs.Laws.{line-run}
 use Rattle.bench_program.proofs.end_line.Statement.{statement}
 use Rattle.bench_program.proofs.end_line.Tie as tie
 

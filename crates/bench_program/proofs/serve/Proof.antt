@@ -2,7 +2,7 @@
 use mathlib.Core.Path.{sym, _∙_}
 use native.Mathlib.Omega.{arith}
 use borrow.Author.Needs.{needs}
-use Rattle.bench_program.proofs.Laws.{Going, going-first, going-on, served, served-line}
+use Rattle.bench_session.proofs.Laws.{Going, going-first, going-on, served, served-line}
 use Rattle.bench_program.proofs.serve.Statement.{statement}
 use Rattle.bench_program.proofs.serve.Tie as tie
 

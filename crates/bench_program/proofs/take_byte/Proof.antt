@@ -2,8 +2,8 @@
 use mathlib.Core.Path.{ap, _∙_}
 use borrow.Author.Needs.{needs}
 use Rattle.commands.specs.declared.Parser.{Parser}
-use Rattle.bench_program.specs.Session.{State, stateOf}
-use Rattle.bench_program.proofs.Laws.{newline, no-newline}
+use Rattle.bench_session.specs.Session.{State, stateOf}
+use Rattle.bench_session.proofs.Laws.{newline, no-newline}
 use Rattle.bench_program.proofs.take_byte.Statement.{statement}
 use Rattle.bench_program.proofs.take_byte.Tie as tie
 

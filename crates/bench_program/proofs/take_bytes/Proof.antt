@@ -4,8 +4,8 @@ use Prim.Native.Nat.{_+_, _-_, _≤_, _<_, zero-le}
 use native.Mathlib.Omega.{arith}
 use borrow.Author.Needs.{needs}
 use lib.ListN.{length, drop}
-use Rattle.bench_program.specs.Session.{State, stateOf, bytesTaken}
-use Rattle.bench_program.proofs.Laws.{taken-one, taken-all}
+use Rattle.bench_session.specs.Session.{State, stateOf, bytesTaken}
+use Rattle.bench_session.proofs.Laws.{taken-one, taken-all}
 use Rattle.bench_program.proofs.take_bytes.Statement.{statement}
 use Rattle.bench_program.proofs.take_bytes.Tie as tie
 

@@ -1,10 +1,9 @@
 -- `c_calls::nv_read` meets its contract. Assumes nothing.
-use mathlib.Core.Path.{ap}
 use borrow.Author.Needs.{needs}
 use Rattle.calls.specs.Call.{Module, buffers}
 use Rattle.calls.specs.Read.{Reading, read}
 use Rattle.c_calls.proofs.Codes.{read-fits}
-use Rattle.c_calls.proofs.Told.{wrong-call, wrong-left, right-call, right-left, code-small}
+use Rattle.c_calls.proofs.Told.{wrong-read, right-read, read-small}
 use Rattle.c_calls.proofs.nv_read.Statement.{statement}
 use Rattle.c_calls.proofs.nv_read.Tie as tie
 
@@ -21,28 +20,16 @@ defined c = let a = start c .args in read (a .keys .now) (a .line) (a .allowance
 returns : tie.Need-returns
 returns c =
     let at = c .before in
-    let all = wrong-call (start at .args .numbers .now) (c .if1 .taken) (given at) (defined at .called) in (
-      all .0,
-      (
-        all .1 .0,
-        (
-          all .1 .1,
-          wrong-left (start at .args .numbers .now) (c .if1 .taken) (start at .args .out .now)
-              (defined at .output),
-        ),
-      ),
-    )
+    let a = start at .args in
+    wrong-read (a .numbers .now) (c .if1 .taken) (given at) (a .out .now) (defined at)
 
 read-requires : tie.Need-read-requires
 read-requires c κs = search needs
 
 tell-requires : tie.Need-tell-requires
 tell-requires c κs =
-    let call = c .before .before .before .before .before .before .before .before .before in (
-      call .before .before .before .before .before .if1 .left,
-      code-small (ap (λ (x : Reading). x .called) (call .read .ensures))
-          (read-fits _ _ _ _ _),
-    )
+    let call = c .before .before .before .before .before .before .before .before .before in
+    (call .before .before .before .before .before .if1 .left, read-small (call .read .ensures) (read-fits _ _ _ _ _))
 
 same-length : tie.Need-same-length
 same-length c = search needs
@@ -65,20 +52,9 @@ returns-2 c =
     let call = told .before .before .before .before .before .before .before .before .before .before in
     let at = call .before .before .before .before .before .before in
     let right = call .before .before .before .before .before .if1 .left in
-    let all =
-    right-call (start at .args .numbers .now) right (given at) (ap (λ (x : Reading). x .called) (call .read .ensures))
-    (told .tell .ensures .0) (told .tell .ensures .1) in (
-      all .0,
-      (
-        all .1 .0,
-        (
-          all .1 .1,
-          right-left (start at .args .numbers .now) right (start at .args .out .now) (defined at .output)
-              (call .read .last .1 .1 .1 .1 .1 .0)
-              (ap (λ (x : Reading). x .output) (call .read .ensures)),
-        ),
-      ),
-    )
+    let a = start at .args in
+    right-read (a .numbers .now) right (given at) (a .out .now) (call .read .ensures) (told .tell .ensures .0)
+    (told .tell .ensures .1)
 
 pub nv-read-spec : {M : Type 1} → statement M
 nv-read-spec =

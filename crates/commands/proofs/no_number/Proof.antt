@@ -1,6 +1,6 @@
 -- `commands::no_number` meets its contract. Assumes nothing.
 use native.Mathlib.Omega.{arith}
-use Rattle.commands.proofs.Steps.{is-p, not-p}
+use Rattle.commands.proofs.Letters.{is-p, not-p}
 use Rattle.commands.proofs.no_number.Statement.{statement}
 use Rattle.commands.proofs.no_number.Tie as tie
 

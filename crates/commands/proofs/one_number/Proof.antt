@@ -1,6 +1,6 @@
 -- `commands::one_number` meets its contract. Assumes nothing.
 use native.Mathlib.Omega.{arith}
-use Rattle.commands.proofs.Steps.{is-r, is-k, not-r-k}
+use Rattle.commands.proofs.Letters.{is-r, is-k, not-r-k}
 use Rattle.commands.proofs.one_number.Statement.{statement}
 use Rattle.commands.proofs.one_number.Tie as tie
 

@@ -1,7 +1,7 @@
 -- `commands::two_numbers` meets its contract. Assumes nothing.
 use native.Mathlib.Omega.{arith}
 use borrow.Author.Needs.{needs}
-use Rattle.commands.proofs.Steps.{not-w, is-w, no-byte}
+use Rattle.commands.proofs.Letters.{not-w, is-w, no-byte}
 use Rattle.commands.proofs.two_numbers.Statement.{statement}
 use Rattle.commands.proofs.two_numbers.Tie as tie
 

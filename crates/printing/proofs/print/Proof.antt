@@ -3,8 +3,8 @@ use mathlib.Core.Path.{sym, ap, _∙_}
 use native.Mathlib.Omega.{arith}
 use borrow.Author.Needs.{needs}
 use Rattle.commands.specs.declared.Command.{Command}
-use Rattle.printing.specs.Printed.{lineOf}
-use Rattle.printing.proofs.Spelled.{appended-all}
+use Rattle.answer_text.specs.Printed.{lineOf}
+use Rattle.number_text.proofs.Spelled.{appended-all}
 use Rattle.printing.proofs.print.Statement.{statement}
 use Rattle.printing.proofs.print.Tie as tie
 

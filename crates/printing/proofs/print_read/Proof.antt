@@ -1,7 +1,7 @@
 -- `printing::print_read` meets its contract. Assumes nothing.
 use native.Mathlib.Omega.{arith}
 use borrow.Author.Needs.{needs}
-use Rattle.printing.proofs.Spelled.{four}
+use Rattle.number_text.proofs.Spelled.{four}
 use Rattle.printing.proofs.print_read.Statement.{statement}
 use Rattle.printing.proofs.print_read.Tie as tie
 

@@ -1,7 +1,7 @@
 -- `printing::print_write` meets its contract. Assumes nothing.
 use native.Mathlib.Omega.{arith}
 use borrow.Author.Needs.{needs}
-use Rattle.printing.proofs.Spelled.{three}
+use Rattle.number_text.proofs.Spelled.{three}
 use Rattle.printing.proofs.print_write.Statement.{statement}
 use Rattle.printing.proofs.print_write.Tie as tie
 
