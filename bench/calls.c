@@ -1,6 +1,7 @@
 // Times each call at each depth: ours, plain C at -O3 (memory.c over plain.c), and plain C over libsodium's primitives.
-// The three take turns in one run on the same state, and the median turn counts. A call that changes the module is
-// followed by putting back what it changed; the time of that, measured in the same turns, is taken off.
+// The three take turns on the same state, a row's turns are spread over the whole run, and the median turn counts: what
+// else the machine does for a while touches a few turns of every row and not all turns of a few. A call that changes the
+// module is followed by putting back what it changed; the time of that, measured in the same turns, is taken off.
 #include "../tests/module.h"
 #include "memory.h"
 #include <sodium.h>
@@ -9,7 +10,7 @@
 CALLS(plain_)
 CALLS(sodium_)
 
-enum { OURS, PLAIN, SODIUM, WHO, BACK = WHO, TIMED, TURNS = 41, CELL = 72, CHANGED = 16 };
+enum { OURS, PLAIN, SODIUM, WHO, BACK = WHO, TIMED, DEPTHS = 3, TURNS = 101, CELL = 72, CHANGED = 16 };
 
 static const calls all[WHO] = { CALLS_OF(nv_), CALLS_OF(plain_), CALLS_OF(sodium_) };
 static const double turn_ns = 400e3;
@@ -93,43 +94,65 @@ static int agree(module *m, undo *u, enum scenario s)
     return same;
 }
 
-static int compare(module *m, undo *u, enum scenario s)
+// A scenario at a depth: its state, how many calls make a turn, and the turns' times.
+typedef struct {
+    module m;
+    undo u;
+    enum scenario s;
+    long calls;
+    double times[TIMED][TURNS];
+} row;
+
+static int make_row(row *r, unsigned depth, enum scenario s)
 {
-    static double times[TIMED][TURNS];
+    r->m = make_module(&all[PLAIN], depth, malloc);
+    r->u.before = make_module(&all[PLAIN], depth, malloc);
+    r->s = s;
+    prepare(&r->m, s);
+    copy_module(&r->u.before, &r->m);
+    int same = agree(&r->m, &r->u, s);
+    copy_module(&r->m, &r->u.before);
+    r->m.by = &all[PLAIN];
+    r->calls = (long)(turn_ns / turn(&r->u, &r->m, s, PLAIN, 20)) + 1;
+    return same;
+}
+
+static void take_turns(row *r, int i)
+{
+    for (int who = 0; who < TIMED; who++) {
+        r->m.by = &all[who % WHO];
+        turn(&r->u, &r->m, r->s, who, r->calls / 8 + 1); // not timed: its memory and code come back to the processor's caches
+        r->times[who][i] = turn(&r->u, &r->m, r->s, who, r->calls);
+    }
+}
+
+static void print_row(row *r, int same)
+{
     double ns[TIMED];
-    m->by = &all[PLAIN];
-    prepare(m, s);
-    copy_module(&u->before, m);
-    int same = agree(m, u, s);
-    copy_module(m, &u->before);
-    m->by = &all[PLAIN];
-    long calls = (long)(turn_ns / turn(u, m, s, PLAIN, 20)) + 1;
-    for (int i = 0; i < TURNS; i++)
-        for (int who = 0; who < TIMED; who++) {
-            m->by = &all[who % WHO];
-            times[who][i] = turn(u, m, s, who, calls);
-        }
     for (int who = 0; who < TIMED; who++)
-        ns[who] = median(times[who]);
-    for (int who = 0; who < WHO && u->any; who++)
+        ns[who] = median(r->times[who]);
+    for (int who = 0; who < WHO && r->u.any; who++)
         ns[who] -= ns[BACK];
     double fastest = ns[PLAIN] < ns[SODIUM] ? ns[PLAIN] : ns[SODIUM];
-    printf("%u  %-24s %10.0f %10.0f %10.0f %10.2f%s\n", m->depth, scenario_names[s], ns[OURS], ns[PLAIN], ns[SODIUM],
+    printf("%u  %-24s %10.0f %10.0f %10.0f %10.2f%s\n", r->m.depth, scenario_names[r->s], ns[OURS], ns[PLAIN], ns[SODIUM],
            ns[OURS] / fastest, same ? "" : "  the three do not agree");
-    return !same;
 }
 
 int main(void)
 {
-    int wrong = 0;
+    static row rows[DEPTHS * SCENARIOS];
+    int same[DEPTHS * SCENARIOS], wrong = 0;
     if (sodium_init() < 0)
         return 1;
+    for (int k = 0; k < DEPTHS * SCENARIOS; k++)
+        same[k] = make_row(&rows[k], 1 + k / SCENARIOS, k % SCENARIOS);
+    for (int i = 0; i < TURNS; i++)
+        for (int k = 0; k < DEPTHS * SCENARIOS; k++)
+            take_turns(&rows[k], i);
     printf("%-27s %10s %10s %10s %10s\n", "depth, ns for one call", "ours", "plain C", "libsodium", "ours/fastest");
-    for (unsigned depth = 1; depth <= 3; depth++) {
-        module m = make_module(&all[PLAIN], depth, malloc);
-        undo u = { .before = make_module(&all[PLAIN], depth, malloc) };
-        for (int s = 0; s < SCENARIOS; s++)
-            wrong |= compare(&m, &u, s);
+    for (int k = 0; k < DEPTHS * SCENARIOS; k++) {
+        print_row(&rows[k], same[k]);
+        wrong |= !same[k];
     }
     return wrong;
 }
