@@ -570,6 +570,13 @@ uint32_t NAME(recover)(const uint8_t *keys, size_t keys_len, uint8_t *control, s
 
 // ---- List of dirty pages ----
 
+static void exchange(uint64_t *a, uint64_t *b)
+{
+    uint64_t low = *a < *b ? *a : *b, high = *a < *b ? *b : *a;
+    *a = low;
+    *b = high;
+}
+
 uint32_t NAME(dirty_pages)(const uint8_t *control, size_t control_len, const uint8_t *cache, size_t cache_len,
                            uint8_t *list, size_t list_len, uint8_t *numbers, size_t numbers_len)
 {
@@ -586,12 +593,15 @@ uint32_t NAME(dirty_pages)(const uint8_t *control, size_t control_len, const uin
         return refuse(numbers, NV_BAD_BUFFER_LENGTH);
     if (!cache_formed(&m, cache))
         return refuse(numbers, NV_BAD_CACHE);
-    uint8_t *end = list;
+    uint64_t page[4];
     for (unsigned i = 0; i < 4; i++)
-        if (cache[SLOT * i + DIRTY_AT]) {
-            put64(end, get64(cache + SLOT * i) - 1);
-            end += 8;
-        }
-    memset(end, 0xff, (size_t)(list + NV_LIST_LENGTH - end));
+        page[i] = cache[SLOT * i + DIRTY_AT] ? get64(cache + SLOT * i) - 1 : UINT64_MAX;
+    exchange(&page[0], &page[1]);
+    exchange(&page[2], &page[3]);
+    exchange(&page[0], &page[2]);
+    exchange(&page[1], &page[3]);
+    exchange(&page[1], &page[2]);
+    for (unsigned i = 0; i < 4; i++)
+        put64(list + 8 * i, page[i]);
     return answer(numbers, NV_DONE, 0, 0, 0);
 }

@@ -98,7 +98,8 @@ uint32_t nv_recover(const uint8_t *keys, size_t keys_len, uint8_t *control, size
                     size_t array_len, uint8_t *cache, size_t cache_len, uint64_t allowance, uint8_t *numbers,
                     size_t numbers_len);
 
-// Lists the pages whose counter block is dirty in the cache: four numbers of 8 bytes, spare places last and all FF hex.
+// Lists the pages whose counter block is dirty in the cache, in rising page number: four numbers of 8 bytes, spare places
+// after them and all FF hex.
 uint32_t nv_dirty_pages(const uint8_t *control, size_t control_len, const uint8_t *cache, size_t cache_len,
                         uint8_t *list, size_t list_len, uint8_t *numbers, size_t numbers_len);
 

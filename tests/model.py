@@ -620,8 +620,8 @@ def dirty_list_call(output, control, cache):
     found = slots_of_cache(cache)
     if not cache_formed(depth_of(control), found):
         return refused(23), output
-    listed = b"".join(number8(slot.owner - 1)
-                      for slot in found[:COUNTER_SLOTS] if slot.dirty)
+    pages = [slot.owner - 1 for slot in found[:COUNTER_SLOTS] if slot.dirty]
+    listed = b"".join(number8(page) for page in sorted(pages))
     return done(), listed.ljust(LIST_LENGTH, b"\xff")
 
 

@@ -87,7 +87,18 @@ def rebuilt(start):
             octets(owners[4:]), blocks, literal(module.cache)), " start")
 
 
-HEAD = """-- Written by tests/test_examples.py: a write with an eviction and a stop-loss store, and what a recovery rebuilds. Assumes nothing.
+def listed(start):
+    """A list of dirty pages whose slots do not have them in rising number, with one that is clean among them."""
+    slots = [(5, 1), (2, 1), (7, 0), (4, 1), (1, 1), (0, 0)]
+    cache = b"".join(owner.to_bytes(8, "little") + bytes([dirty]) + bytes(64) for owner, dirty in slots)
+    answer, output = model.dirty_list_call(bytes(32), start.control, cache)
+    assert answer == model.Answer("done", 0, 0, 0, 0)
+    return theorem("listed", "dirtyPages (start .control) (%s) (replicate 32 0)\n    ≡ record { answer = Done 0 0; output = %s }" % (
+        literal(cache), octets(output)), " start")
+
+
+HEAD = """-- Written by tests/test_examples.py: a write with an eviction and a stop-loss store, what a recovery rebuilds, and a list of
+-- dirty pages. Assumes nothing.
 use mathlib.Core.Path.{_≡_, refl}
 use mathlib.Core.List.{List, [], _∷_}
 use Prim.Native.Nat.{ℕ, _*_}
@@ -99,6 +110,7 @@ use Rattle.cache.specs.Cache.{emptyCache}
 use Rattle.calls.specs.Call.{Module, Called}
 use Rattle.calls.specs.Write.{write}
 use Rattle.calls.specs.Recovery.{rebuilt, rebuildBlocks, rebuildNodes}
+use Rattle.calls.specs.DirtyPages.{dirtyPages}
 use Rattle.calls.proofs.Run.{run}
 use Rattle.calls.proofs.Sparse.{sparse, upTo}
 
@@ -127,7 +139,7 @@ def main(words):
         print(__doc__)
         return 2
     start = before_eviction()
-    text = HEAD % module_text(start) + written(start) + rebuilt(start)
+    text = HEAD % module_text(start) + written(start) + rebuilt(start) + listed(start)
     path = os.path.join(TOP, FILE)
     if words:
         with open(path, "w", encoding="utf-8") as f:

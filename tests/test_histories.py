@@ -128,14 +128,13 @@ def refused_call(rng, rule):
 
 
 def dirty_pages(rule):
-    """The list: each dirty page once, then FF hex."""
+    """The list: the dirty pages in rising number, then FF hex."""
     code = rule.session.make("dirty_pages")[0]
-    listed = [model.number_at(rule.session.get("list"), at) for at in (0, 8, 16, 24)]
     slots = model.slots_of_cache(rule.session.get("cache"))[:4]
-    pages = [slot.owner - 1 for slot in slots if slot.dirty]
-    spare = [2**64 - 1] * (4 - len(pages))
-    rule.tally.check(code == DONE and sorted(listed[:len(pages)]) == sorted(pages) and listed[len(pages):] == spare,
-                     "list of dirty pages: %d %s" % (code, listed))
+    pages = sorted(slot.owner - 1 for slot in slots if slot.dirty)
+    listed = b"".join(model.number8(page) for page in pages).ljust(32, b"\xff")
+    rule.tally.check(code == DONE and rule.session.get("list") == listed,
+                     "list of dirty pages: %d %s" % (code, rule.session.get("list").hex()))
 
 
 def random_history(rule, rng, length):

@@ -243,6 +243,9 @@ def test_dirty_slots():
     for line in (64, 128, 448):
         _, module = write_call(KEYS, line, OUTPUT, UNLIMITED, module)
     equal("four dirty pages", listed(module), [0, 1, 2, 7])
+    _, module = write_call(KEYS, 256, OUTPUT, UNLIMITED, module)
+    equal("pages in rising number, not by slot", dirty_list_call(bytes(32), module.control, module.cache)[1],
+          b"".join(number8(page) for page in (1, 2, 4, 7)))
 
 
 # ---- Refusals ----
@@ -703,7 +706,7 @@ def check_step(history, before, event, answer, output):
     if kind == "list" and answer.kind == "done":
         numbers = [model.number_at(output, 8 * i) for i in range(4)]
         found = model.slots_of_cache(history.module.cache)[:4]
-        dirty = [slot.owner - 1 for slot in found if slot.dirty]
+        dirty = sorted(slot.owner - 1 for slot in found if slot.dirty)
         model.claim(numbers == dirty + [2**64 - 1] * (4 - len(dirty)),
                     "listed pages")
 

@@ -21,8 +21,7 @@ use Rattle.calls.specs.Write.{writeLoaded, writePath, writeJudged, write}
 use Rattle.calls.specs.Recovery.{Rebuilt, rebuilt, damaged, recoveryRefusal, recoverRoot, recoverRebuilt, recoverShadow}
 use Rattle.calls.specs.Recovery.{recoverJudged, recover}
 use Rattle.calls.specs.Format.{formatRefusal, formatted, format}
-use Rattle.calls.specs.DirtyPages.{listRefusal}
-use Rattle.c_calls.specs.Listed.{listAnswer}
+use Rattle.calls.specs.DirtyPages.{listRefusal, listJudged, dirtyPages}
 
 -- the code of a call's answer is small
 pub record Fits (x : Called) : Type 0 where
@@ -83,9 +82,9 @@ format-small : (keys : List ℕ) (h : ℕ) (m : Module) → formatRefusal keys h
 unfolding formatRefusal
 format-small keys h m = judged-small _ (lit≤ tt, (lit≤ tt, (lit≤ tt, (lit≤ tt, (lit≤ tt, tt)))))
 
-list-small : (control cache out : List ℕ) → listRefusal control cache out ≤ 29
+list-refusal-small : (control cache out : List ℕ) → listRefusal control cache out ≤ 29
 unfolding listRefusal
-list-small control cache out = judged-small _ (lit≤ tt, (lit≤ tt, (lit≤ tt, (lit≤ tt, (lit≤ tt, tt)))))
+list-refusal-small control cache out = judged-small _ (lit≤ tt, (lit≤ tt, (lit≤ tt, (lit≤ tt, (lit≤ tt, tt)))))
 
 -- ---- the calls
 
@@ -164,13 +163,10 @@ module _ (keys : List ℕ) where
   unfolding format
   format-fits h m = format-judged h m (formatRefusal keys h m) (format-small keys h m)
 
--- of the list, whatever it leaves
-list-judged : (m : Module) (n : ℕ) → n ≤ 29 → Fits (record { answer = listAnswer n; after = m })
-unfolding listAnswer
-list-judged m zero p = done-fits 0 0 m
-list-judged m (suc n) p = refused-fits (suc n) 0 0 0 m p
+list-judged : (control cache out : List ℕ) (n : ℕ) → n ≤ 29 → codeOf ((listJudged n control cache out) .answer) ≤ 129
+unfolding listJudged codeOf
+list-judged control cache out zero p = lit≤ tt
+list-judged control cache out (suc n) p = omega arith
 
-pub list-fits : (control cache out : List ℕ) → codeOf (listAnswer (listRefusal control cache out)) ≤ 129
-list-fits control cache out =
-    list-judged (record { array = []; control = control; cache = cache }) (listRefusal control cache out)
-    (list-small control cache out) .code
+pub list-fits : (control cache out : List ℕ) → codeOf ((dirtyPages control cache out) .answer) ≤ 129
+list-fits control cache out = list-judged control cache out (listRefusal control cache out) (list-refusal-small control cache out)

@@ -5,9 +5,8 @@ ghost use Rattle.calls.specs.Read.{read as readOf};
 ghost use Rattle.calls.specs.Write.{write as writeOf};
 ghost use Rattle.calls.specs.Recovery.{recover as recoverOf};
 ghost use Rattle.calls.specs.Format.{format as formatOf};
-ghost use Rattle.calls.specs.DirtyPages.{listRefusal};
+ghost use Rattle.calls.specs.DirtyPages.{dirtyPages};
 ghost use Rattle.calls.specs.ForC.{codeForC, bufferForC, leftForC};
-ghost use Rattle.c_calls.specs.Listed.{listAnswer, ListLeft};
 use c_numbers::tell;
 
 // The code for a buffer of another length than 24.
@@ -127,10 +126,11 @@ pub extern "C" fn nv_dirty_pages(
     numbers: &mut [u8],
 ) -> u32
     ensures { λ r. ⌜ r ≡ codeForC (now (numbers .entry))
-        (listAnswer (listRefusal (now (control .entry)) (now (cache .entry)) (now (list .entry)))) ⌝ }
+        ((dirtyPages (now (control .entry)) (now (cache .entry)) (now (list .entry))) .answer) ⌝ }
     ensures { λ _. ⌜ now (numbers .exit) ≡ bufferForC (now (numbers .entry))
-        (listAnswer (listRefusal (now (control .entry)) (now (cache .entry)) (now (list .entry)))) ⌝ }
-    ensures { λ _. ⌜ ListLeft (now (numbers .entry)) (now (control .entry)) (now (cache .entry)) (now (list .entry)) (now (list .exit)) ⌝ }
+        ((dirtyPages (now (control .entry)) (now (cache .entry)) (now (list .entry))) .answer) ⌝ }
+    ensures { λ _. ⌜ now (list .exit) ≡ leftForC (now (numbers .entry)) (now (list .entry))
+        ((dirtyPages (now (control .entry)) (now (cache .entry)) (now (list .entry))) .output) ⌝ }
 {
     if numbers.len() != 24 {
         return BAD_NUMBERS;

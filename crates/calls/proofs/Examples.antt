@@ -1,4 +1,5 @@
--- Written by tests/test_examples.py: a write with an eviction and a stop-loss store, and what a recovery rebuilds. Assumes nothing.
+-- Written by tests/test_examples.py: a write with an eviction and a stop-loss store, what a recovery rebuilds, and a list of
+-- dirty pages. Assumes nothing.
 use mathlib.Core.Path.{_≡_, refl}
 use mathlib.Core.List.{List, [], _∷_}
 use Prim.Native.Nat.{ℕ, _*_}
@@ -10,6 +11,7 @@ use Rattle.cache.specs.Cache.{emptyCache}
 use Rattle.calls.specs.Call.{Module, Called}
 use Rattle.calls.specs.Write.{write}
 use Rattle.calls.specs.Recovery.{rebuilt, rebuildBlocks, rebuildNodes}
+use Rattle.calls.specs.DirtyPages.{dirtyPages}
 use Rattle.calls.proofs.Run.{run}
 use Rattle.calls.proofs.Sparse.{sparse, upTo}
 
@@ -130,3 +132,19 @@ nodes :
     ∷ [])
 unfolding run sparse upTo start
 nodes = refl
+
+listed :
+    dirtyPages (start .control) (sparse ((0, 5 ∷ 0 ∷ 0 ∷ 0 ∷ 0 ∷ 0 ∷ 0 ∷ 0 ∷ 1 ∷ [])
+    ∷ (64, 2 ∷ 0 ∷ 0 ∷ 0 ∷ 0 ∷ 0 ∷ 0 ∷ 0 ∷ 1 ∷ [])
+    ∷ (64, 7 ∷ [])
+    ∷ (72, 4 ∷ 0 ∷ 0 ∷ 0 ∷ 0 ∷ 0 ∷ 0 ∷ 0 ∷ 1 ∷ [])
+    ∷ (64, 1 ∷ 0 ∷ 0 ∷ 0 ∷ 0 ∷ 0 ∷ 0 ∷ 0 ∷ 1 ∷ [])
+    ∷ (137, [])
+    ∷ [])) (replicate 32 0)
+    ≡ record {
+      answer = Done 0 0;
+      output = 1 ∷ 0 ∷ 0 ∷ 0 ∷ 0 ∷ 0 ∷ 0 ∷ 0 ∷ 3 ∷ 0 ∷ 0 ∷ 0 ∷ 0 ∷ 0 ∷ 0 ∷ 0 ∷ 4 ∷ 0 ∷ 0 ∷ 0 ∷
+          0 ∷ 0 ∷ 0 ∷ 0 ∷ 255 ∷ 255 ∷ 255 ∷ 255 ∷ 255 ∷ 255 ∷ 255 ∷ 255 ∷ [];
+    }
+unfolding run sparse upTo start
+listed = refl

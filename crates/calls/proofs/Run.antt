@@ -9,7 +9,7 @@ use Rattle.calls.specs.Write.{newBlock, dataCell, writeBatch, writeStore
 use Rattle.calls.specs.Recovery.{recoveryRefusal, forwardFrom, total, rebuildBlock, rebuildSlot, rebuildBlocks, rebuildNode}
 use Rattle.calls.specs.Recovery.{rebuildNodes, recoverRoot, recoverRebuilt, recoverShadow, recoverJudged}
 use Rattle.calls.specs.Format.{formatRefusal, countsFrom, freshNode, nodeCells, levelCells, freshArray, formatted, format}
-use Rattle.calls.specs.DirtyPages.{listRefusal, dirtyPages, occurrences, ListCall}
+use Rattle.calls.specs.DirtyPages.{listRefusal, isDirty, dirtyFrom, pageList, listJudged}
 use Rattle.calls.specs.ForC.{codeForC, bufferForC, leftForC}
 use Rattle.calls.specs.Path.{evicted, loadNode, loadLevels, renewed, renewPath, tagsFrom}
 use Rattle.chacha20.specs.ChaCha20.{quarter, quarterRound, columnRound, diagonalRound, rounds, addStates, start, serialised, block}
@@ -29,7 +29,8 @@ unfolding codeOf storesOf firstOf secondOf owner dirty content withSlot cellCont
     badSlot flagsFormed isNothing formed holds current judged formatRefusal recoveryRefusal accessRefusal listRefusal storing countsFrom
     freshNode nodeCells levelCells freshArray formatted format sideOk lineText answered readLoaded readPath readJudged newBlock dataCell
     writeBatch writeStores writtenCache writeLoaded writePath writeJudged forwardFrom total rebuildBlock rebuildSlot rebuildBlocks
-    rebuildNode rebuildNodes recoverRoot recoverRebuilt recoverShadow recoverJudged dirtyPages occurrences ListCall codeForC bufferForC
+    rebuildNode rebuildNodes recoverRoot recoverRebuilt recoverShadow recoverJudged isDirty dirtyFrom pageList listJudged codeForC
+    bufferForC
     leftForC evicted loadNode loadLevels renewed renewPath tagsFrom quarter quarterRound columnRound diagonalRound rounds addStates start
     serialised block depth root count newRoot queued places queue inMap validHead valid freshControl major minors counterBlock withMinor
     forward mayForward store storeAll stages finish batchStores pendingStores pages lines nodes levelStart slots shadowStart shadowCells

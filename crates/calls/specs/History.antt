@@ -1,6 +1,6 @@
 -- Histories of a module: the events of a list, the book made from it, which lists are allowed, and the history rule.
 -- Assumes nothing.
-use Prim.Native.Nat.{ℕ, zero, suc, _+_, _-_, _/_, _^_, _<_, _≤_}
+use Prim.Native.Nat.{ℕ, suc, _+_, _-_, _/_, _^_, _<_, _≤_}
 use mathlib.Core.Path.{_≡_}
 use mathlib.Core.Logic.{_⊎_}
 use mathlib.Core.Bool.{Bool, true, false, cond}
@@ -16,12 +16,12 @@ use Rattle.answer.specs.declared.Answer.the-variants.{Done, Blank, Cut, Refused
 use Rattle.answer.specs.Answer.{storesOf}
 use Rattle.control.specs.Control.{root}
 use Rattle.cache.specs.Cache.{cellContent, current}
-use Rattle.calls.specs.Call.{Module, Called, refuse}
+use Rattle.calls.specs.Call.{Module, Called}
 use Rattle.calls.specs.Read.{Reading, blankText, read}
 use Rattle.calls.specs.Write.{write}
 use Rattle.calls.specs.Recovery.{recover, total}
 use Rattle.calls.specs.Format.{format, freshNode, freshRoot, countsFrom}
-use Rattle.calls.specs.DirtyPages.{listRefusal}
+use Rattle.calls.specs.DirtyPages.{dirtyPages}
 
 -- Events: the calls with their inputs, and a power cut between calls, which leaves any cache of its length
 
@@ -33,16 +33,12 @@ pub data Event : Type 0 where
   formats : List ℕ → ℕ → Event
   powerCut : List ℕ → Event
 
-unfoldable pub listCall : ℕ → Module → Called
-listCall zero m = record { answer = Done 0 0; after = m }
-listCall (suc n) m = refuse m (suc n) 0 0
-
 -- what an event answers and leaves; a power cut between calls is a cut after no store
 unfoldable pub step : Event → Module → Called
 step (reads keys line allowance out) m = (read keys line allowance out m) .called
 step (writes keys line text allowance) m = write keys line text allowance m
 step (recovers keys allowance) m = recover keys allowance m
-step (lists out) m = listCall (listRefusal (m .control) (m .cache) out) m
+step (lists out) m = record { answer = (dirtyPages (m .control) (m .cache) out) .answer; after = m }
 step (formats keys h) m = format keys h m
 step (powerCut c) m = record { answer = Cut 0; after = record { array = m .array; control = m .control; cache = c } }
 

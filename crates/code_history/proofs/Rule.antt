@@ -1,21 +1,19 @@
 -- The history rule of the code. Assumes nothing.
 use mathlib.Core.Path.{_≡_, refl, sym, ap, ap₂, _∙_, subst, subst₂}
 use mathlib.Core.Bool.{false}
-use mathlib.Core.List.{List, [], _∷_, _++_}
-use Prim.Native.Nat.{ℕ, zero, suc}
-use lib.ListN.{length}
+use mathlib.Core.List.{List, _∷_, _++_}
+use Prim.Native.Nat.{ℕ}
 use Rattle.answer.specs.declared.Answer.{Answer}
-use Rattle.answer.specs.declared.Answer.the-variants.{Done, Refused}
+use Rattle.answer.specs.declared.Answer.the-variants.{Done}
 use Rattle.calls.specs.Call.{Module, Called}
 use Rattle.calls.specs.Read.{Reading}
 use Rattle.calls.specs.Format.{format}
 use Rattle.calls.specs.Recovery.{recover}
-use Rattle.calls.specs.DirtyPages.{listRefusal, Lists, ListCall}
+use Rattle.calls.specs.DirtyPages.{Listing}
 use Rattle.calls.specs.History.{
   Event,
   recovers,
   step,
-  listCall,
   AreBytes,
   Allowed,
   moduleAfter,
@@ -33,6 +31,7 @@ use Rattle.code_history.proofs.Steps.{
   Recovered,
   recoverBefore,
   recoverAfter,
+  listBefore,
   Step,
   formatted,
   read,
@@ -45,22 +44,14 @@ use Rattle.code_history.proofs.Steps.{
   next,
 }
 
--- a list of dirty pages changes nothing of the module
-list-step : (m : Module) (out : List ℕ) (a : Answer) (after : List ℕ) (n : ℕ)
-    → (elim n as (λ _. Type 0) [ zero ↦ (a ≡ Done 0 0) × Lists (m .cache) after | suc i ↦ (a ≡ Refused (suc i) 0 0 0) × (after ≡ out) ])
-    → listCall n m ≡ record { answer = a; after = m }
-unfolding listCall
-list-step m out a after zero s = ap (λ (x : Answer). record { answer = x; after = m }) (sym (s .0))
-list-step m out a after (suc n) s = ap (λ (x : Answer). record { answer = x; after = m }) (sym (s .0))
-
 -- each step is the one that is defined: the contract says so
 pub step-defined : {m n : Module} {e : Event} {a : Answer} → Step m e a n → step e m ≡ record { answer = a; after = n }
-unfolding step ListCall
+unfolding step
 step-defined (formatted c) = sym (c .contract)
 step-defined (read c) = ap (λ (r : Reading). r .called) (sym (c .contract))
 step-defined (written c) = sym (c .contract)
 step-defined (recovered c) = sym (c .contract)
-step-defined (listed array c) = list-step _ _ _ _ (listRefusal (c .args .0 .now) (c .args .1 .0 .now) (c .args .1 .1 .0 .now)) (c .contract)
+step-defined (listed array c) = ap (λ (l : Listing). record { answer = l .answer; after = listBefore array c }) (sym (c .contract))
 step-defined (power m cache) = refl
 
 pub run-defined : {m n : Module} {es : List Event} → Run m es n → moduleAfter m es ≡ n

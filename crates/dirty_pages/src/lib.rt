@@ -1,10 +1,12 @@
 // The list of dirty pages, as a call.
-ghost use Prim.Native.Nat.{ℕ, _-_, _*_, _<_, _≤_};
+ghost use Prim.Native.Nat.{ℕ, _*_, _<_, _≤_};
 ghost use mathlib.Core.Path.{_≡_};
-ghost use lib.ListN.{length, replicate};
-ghost use Rattle.words.specs.Bytes.{put, bytesOf};
+ghost use lib.ListN.{length};
+ghost use Rattle.words.specs.Bytes.{bytesOf};
 ghost use Rattle.cache.specs.Cache.{owner as ownerOf, dirty as dirtyOf};
-ghost use Rattle.calls.specs.DirtyPages.{listRefusal, dirtyPages, ListCall};
+ghost use Rattle.calls.specs.DirtyPages.{listRefusal, dirtyPages};
+ghost use Rattle.rising.specs.Rising.{rising};
+ghost use Rattle.dirty_pages.specs.Entry.{entry as entryOf};
 use answer::Answer;
 
 // The refusal of the call, 0 where it has none: 3 21 5 7 23.
@@ -31,40 +33,37 @@ fn refusal(control: &[u8], cache: &[u8], out: &[u8]) -> u64
     0
 }
 
-// Writes the pages of dirty counter slots to the front of out, and tells how many.
-fn put_pages(cache: &[u8], out: &mut [u8]) -> usize
+// What counter slot s gives the list: its page where it is dirty, else the number of a spare place, all FF hex.
+fn entry(cache: &[u8], s: usize) -> u64
+    requires { ⌜ (s < 4) × (73 * 4 ≤ length (now cache)) ⌝ }
+    requires clean { ⌜ (ownerOf (now cache) s ≡ 0 → dirtyOf (now cache) s ≡ 0) ⌝ }
+    ensures { λ r. ⌜ r ≡ entryOf (now (cache .entry)) s ⌝ }
+{
+    if cache::dirty(cache, s) == 1 {
+        cache::owner(cache, s) - 1
+    } else {
+        u64::MAX
+    }
+}
+
+// Writes what the counter slots give, in rising sequence: spare places, as the largest numbers, come last.
+fn put_pages(cache: &[u8], out: &mut [u8])
     requires { ⌜ (73 * 4 ≤ length (now cache)) × (length (now out) ≡ 32) ⌝ }
     requires clean { ⌜ ((s : ℕ) → s < 4 → ownerOf (now cache) s ≡ 0 → dirtyOf (now cache) s ≡ 0) ⌝ }
-    ensures count { λ r. ⌜ r ≡ length (dirtyPages (now (cache .entry)) 0 4) ⌝ }
-    ensures bytes { λ _. ⌜ now (out .exit) ≡ put (now (out .entry)) 0 (bytesOf 8 (dirtyPages (now (cache .entry)) 0 4)) ⌝ }
+    ensures { λ _. ⌜ now (out .exit) ≡ bytesOf 8 (rising (entryOf (now (cache .entry)) 0) (entryOf (now (cache .entry)) 1)
+        (entryOf (now (cache .entry)) 2) (entryOf (now (cache .entry)) 3)) ⌝ }
 {
-    let mut n = 0;
-    let mut s = 0;
-    while s < 4 {
-        if cache::dirty(cache, s) == 1 {
-            words::store64(out, 8 * n, cache::owner(cache, s) - 1);
-            n += 1;
-        }
-        s += 1;
-    }
-    n
+    let a = entry(cache, 0);
+    let b = entry(cache, 1);
+    let c = entry(cache, 2);
+    let d = entry(cache, 3);
+    rising::put_rising(out, a, b, c, d);
 }
 
-// Writes FF hex to the places from the n-th on.
-fn put_spare(out: &mut [u8], n: usize)
-    requires { ⌜ (n ≤ 4) × (length (now out) ≡ 32) ⌝ }
-    ensures { λ _. ⌜ now (out .exit) ≡ put (now (out .entry)) (8 * n) (replicate (32 - 8 * n) 255) ⌝ }
-{
-    let mut i = n;
-    while i < 4 {
-        words::store64(out, 8 * i, u64::MAX);
-        i += 1;
-    }
-}
-
-// Writes the pages of dirty counter slots as 8-byte numbers into 32 bytes, and FF hex after them.
+// Writes the pages of dirty counter slots as 8-byte numbers into 32 bytes, in rising number, and FF hex after them.
 pub fn dirty_pages(control: &[u8], cache: &[u8], out: &mut [u8]) -> Answer
-    ensures { λ r. ⌜ ListCall (now (control .entry)) (now (cache .entry)) (now (out .entry)) r (now (out .exit)) ⌝ }
+    ensures { λ r. ⌜ record { answer = r; output = now (out .exit) }
+        ≡ dirtyPages (now (control .entry)) (now (cache .entry)) (now (out .entry)) ⌝ }
 {
     let number = refusal(control, cache, out);
     if number != 0 {
@@ -75,7 +74,6 @@ pub fn dirty_pages(control: &[u8], cache: &[u8], out: &mut [u8]) -> Answer
             second: 0,
         };
     }
-    let n = put_pages(cache, out);
-    put_spare(out, n);
+    put_pages(cache, out);
     Answer::Done { stores: 0, sum: 0 }
 }

@@ -24,8 +24,8 @@ use Rattle.calls.specs.Read.{Reading, answered, lineMinor, readJudged, read}
 use Rattle.calls.specs.Write.{writeStores, writtenCache, writeLoaded, writePath, writeJudged, write}
 use Rattle.calls.specs.Recovery.{recover}
 use Rattle.calls.specs.Format.{formatRefusal, formatted, format}
-use Rattle.calls.specs.DirtyPages.{listRefusal}
-use Rattle.calls.specs.History.{Event, reads, writes, recovers, lists, formats, powerCut, listCall, step, Book}
+use Rattle.calls.specs.DirtyPages.{listRefusal, listJudged}
+use Rattle.calls.specs.History.{Event, reads, writes, recovers, lists, formats, powerCut, step, Book}
 use Rattle.calls.specs.History.{commits, entered, bookAfter, Keyed, Admitted, awaits, Allowed, moduleAfter, bookOf}
 use Rattle.call_laws.proofs.Judged.{access-accepted}
 use Rattle.history_laws.proofs.Setting.{Setting}
@@ -232,10 +232,10 @@ module _ (S : Setting) where
     recover-event given allowance (inl z) = subst (λ (g : List ℕ). Leads aw b (recover g allowance m)) (sym z) (recover-own aw v allowance)
     recover-event given allowance (inr s) = refused-inv _ v (recover-same given allowance m) s
 
-    list-event : aw ≡ false → (k : ℕ) → Leads aw b (listCall k m)
-    unfolding listCall awaits
-    list-event idle zero = ready-inv (v .ready idle)
-    list-event idle (suc k) = v
+    list-event : aw ≡ false → (out : List ℕ) (k : ℕ) → Inv (awaits aw ((listJudged k (m .control) (m .cache) out) .answer)) b m
+    unfolding listJudged awaits
+    list-event idle out zero = ready-inv (v .ready idle)
+    list-event idle out (suc k) = v
 
     abbrev chosen : List ℕ → ℕ → ℕ → Called
     chosen given d k = elim k as (λ z. Called) [ zero ↦ formatted given d | suc n ↦ refuse m (suc n) 0 0 ]
@@ -263,7 +263,7 @@ module _ (S : Setting) where
     event (reads given n allowance out) ok = read-event (ok .0) given n allowance out (ok .1)
     event (writes given n text allowance) ok = write-event (ok .0) given n text (record { at = ok .4 }) allowance (ok .1)
     event (recovers given allowance) ok = recover-event given allowance (ok .0)
-    event (lists out) ok = list-event (ok .0) (listRefusal (m .control) (m .cache) out)
+    event (lists out) ok = list-event (ok .0) out (listRefusal (m .control) (m .cache) out)
     event (formats given d) ok = format-event given d (formatRefusal given d m) (ok .2)
     event (powerCut c) ok = power-event c (ok .0) (record { at = ok .1 })
 

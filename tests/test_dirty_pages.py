@@ -1,0 +1,57 @@
+"""Lists of dirty pages through the library, byte by byte: the pages of dirty counter slots in rising number, then FF hex.
+
+At depth 1 every state of the four counter slots: each empty, or with one of its two pages, clean or dirty. At all depths the
+pages in every sequence, from the lowest to the last of the module, with every choice of dirty slots.
+"""
+
+from itertools import permutations, product
+
+import model
+import states
+from library import DONE, Library, NUMBERS, Tally
+
+LIST = b"\x5a" * 32
+
+
+def cache_of(depth, counters):
+    """A cache with these (owner, dirty) in the counter slots and, below it, the top."""
+    slots = list(counters) + [(0, 0)] * (model.slots(depth) - 4)
+    slots[model.slot_of(depth, 0)] = (1, 0)
+    return b"".join(owner.to_bytes(8, "little") + bytes([dirty]) + bytes([slot]) * 64
+                    for slot, (owner, dirty) in enumerate(slots))
+
+
+def every_state():
+    """At depth 1: the states of the four counter slots."""
+    return product(*([(0, 0)] + [(page + 1, dirty) for page in (slot, slot + 4) for dirty in (0, 1)] for slot in range(4)))
+
+
+def every_sequence(depth):
+    """Four pages in every sequence, near and far apart, dirty or clean."""
+    last = model.pages(depth) // 4 - 1
+    for ranks in permutations(sorted({0, last // 3, last // 2, last})[-4:]):
+        for flags in product((0, 1), repeat=4):
+            yield [(4 * rank + slot + 1, dirty) for slot, (rank, dirty) in enumerate(zip(ranks, flags))]
+
+
+def hold(tally, library, depth, counters):
+    control, cache = states.formatted(depth).control, cache_of(depth, counters)
+    pages = sorted(owner - 1 for owner, dirty in counters if dirty)
+    listed = b"".join(page.to_bytes(8, "little") for page in pages).ljust(32, b"\xff")
+    arguments = (control, cache, LIST, NUMBERS)
+    tally.compare(library, "dirty_pages", arguments, (DONE, (control, cache, listed, bytes(24))))
+    tally.compare(library, "dirty_pages", arguments)
+
+
+def main():
+    tally, library = Tally("dirty pages"), Library()
+    for counters in every_state():
+        hold(tally, library, 1, counters)
+    for depth in (2, 3):
+        for counters in every_sequence(depth):
+            hold(tally, library, depth, counters)
+    tally.finish()
+
+
+if __name__ == "__main__":
+    main()
