@@ -1,10 +1,10 @@
 """Lists of dirty pages through the library, byte by byte: the pages of dirty counter slots in rising number, then FF hex.
 
-At depth 1 every state of the four counter slots: each empty, or with one of its two pages, clean or dirty. At all depths the
-pages in every sequence, from the lowest to the last of the module, with every choice of dirty slots.
+At depth 1 every state of the four counter slots: each empty, or with one of its two pages, clean or dirty. At depths 2 and 3
+each has its lowest page, its last or one of two between, clean or dirty, in every combination.
 """
 
-from itertools import permutations, product
+from itertools import product
 
 import model
 import states
@@ -14,7 +14,7 @@ LIST = b"\x5a" * 32
 
 
 def cache_of(depth, counters):
-    """A cache with these (owner, dirty) in the counter slots and, below it, the top."""
+    """A cache with these (owner, dirty) in the counter slots, and the top."""
     slots = list(counters) + [(0, 0)] * (model.slots(depth) - 4)
     slots[model.slot_of(depth, 0)] = (1, 0)
     return b"".join(owner.to_bytes(8, "little") + bytes([dirty]) + bytes([slot]) * 64
@@ -26,12 +26,11 @@ def every_state():
     return product(*([(0, 0)] + [(page + 1, dirty) for page in (slot, slot + 4) for dirty in (0, 1)] for slot in range(4)))
 
 
-def every_sequence(depth):
-    """Four pages in every sequence, near and far apart, dirty or clean."""
+def every_combination(depth):
+    """At the other depths: a page of the four in each counter slot, clean or dirty."""
     last = model.pages(depth) // 4 - 1
-    for ranks in permutations(sorted({0, last // 3, last // 2, last})[-4:]):
-        for flags in product((0, 1), repeat=4):
-            yield [(4 * rank + slot + 1, dirty) for slot, (rank, dirty) in enumerate(zip(ranks, flags))]
+    return product(*([(4 * rank + slot + 1, dirty) for rank in (0, last // 3, last // 2, last) for dirty in (0, 1)]
+                     for slot in range(4)))
 
 
 def hold(tally, library, depth, counters):
@@ -48,7 +47,7 @@ def main():
     for counters in every_state():
         hold(tally, library, 1, counters)
     for depth in (2, 3):
-        for counters in every_sequence(depth):
+        for counters in every_combination(depth):
             hold(tally, library, depth, counters)
     tally.finish()
 
