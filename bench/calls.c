@@ -10,7 +10,7 @@
 CALLS(plain_)
 CALLS(sodium_)
 
-enum { OURS, PLAIN, SODIUM, WHO, BACK = WHO, TIMED, DEPTHS = 3, TURNS = 101, CELL = 72, CHANGED = 16 };
+enum { OURS, PLAIN, SODIUM, WHO, BACK = WHO, TIMED, DEPTHS = 3, TURNS = 101, CELL = 72, CHANGED = 80 };
 
 static const calls all[WHO] = { CALLS_OF(nv_), CALLS_OF(plain_), CALLS_OF(sodium_) };
 static const double turn_ns = 400e3;
@@ -140,17 +140,17 @@ static void print_row(row *r, int same)
 
 int main(void)
 {
-    static row rows[DEPTHS * SCENARIOS];
-    int same[DEPTHS * SCENARIOS], wrong = 0;
+    static row rows[DEPTHS * BENCH_ROWS];
+    int same[DEPTHS * BENCH_ROWS], wrong = 0;
     if (sodium_init() < 0)
         return 1;
-    for (int k = 0; k < DEPTHS * SCENARIOS; k++)
-        same[k] = make_row(&rows[k], 1 + k / SCENARIOS, k % SCENARIOS);
+    for (int k = 0; k < DEPTHS * BENCH_ROWS; k++)
+        same[k] = make_row(&rows[k], 1 + k / BENCH_ROWS, k % BENCH_ROWS);
     for (int i = 0; i < TURNS; i++)
-        for (int k = 0; k < DEPTHS * SCENARIOS; k++)
+        for (int k = 0; k < DEPTHS * BENCH_ROWS; k++)
             take_turns(&rows[k], i);
     printf("%-27s %10s %10s %10s %10s\n", "depth, ns for one call", "ours", "plain C", "libsodium", "ours/fastest");
-    for (int k = 0; k < DEPTHS * SCENARIOS; k++) {
+    for (int k = 0; k < DEPTHS * BENCH_ROWS; k++) {
         print_row(&rows[k], same[k]);
         wrong |= !same[k];
     }

@@ -21,6 +21,7 @@
 
 enum { CELL = 72, CONTENT = 64, SLOT = 73, PLACE = 80, LEVELS = 4, SLOTS = 10, QUEUE = 8 };
 enum { DEPTH_AT = 5, ROOT_AT = 7, COUNT_AT = 15, NEW_ROOT_AT = 16, QUEUE_AT = 24 }; // control record
+enum { TURN_AT = 664, TURN_PAGE_AT = 665, TURN_MASK_AT = 673 };                   // its section of a turn
 enum { DIRTY_AT = 8, CONTENT_AT = 9 };                                            // slot of the cache
 enum { MINOR_MAX = 127, STOP_LOSS = 4 };
 
@@ -137,6 +138,23 @@ static void set_minor(uint8_t *block, unsigned line, uint64_t minor)
     put64(group, (get64(group) & ~((uint64_t)127 << shift)) | minor << shift);
 }
 
+// The block of a turned page: the next major, and minor 1 of each written line; the mask of these lines.
+static uint64_t turn_block(const uint8_t *block, uint8_t *turned)
+{
+    uint64_t mask = 0;
+    put64(turned, get64(block) + 1);
+    for (unsigned group = 0; group < 8; group++) {
+        uint64_t minors = get64(block + 7 + 7 * group) >> 8, ones = 0;
+        for (unsigned i = 0; i < 8; i++) {
+            uint64_t written = (minors >> 7 * i & 127) != 0;
+            ones |= written << 7 * i;
+            mask |= written << (8 * group + i);
+        }
+        memcpy(turned + 8 + 7 * group, &ones, 7);
+    }
+    return mask;
+}
+
 // ---- Map, slots and validity ----
 
 static unsigned level_of(unsigned slot)
@@ -172,6 +190,19 @@ static int cache_formed(const module *m, const uint8_t *cache)
     return any == 0 || get64(cache + SLOT * slot_of(m->depth, 0)) != 0;
 }
 
+static int is_open(const uint8_t *control, uint64_t page)
+{
+    return control[TURN_AT] != 0 && get64(control + TURN_PAGE_AT) == page;
+}
+
+static int turn_valid(const uint8_t *control)
+{
+    if (control[TURN_AT] == 0)
+        return 1;
+    return control[TURN_AT] == 1 && get64(control + TURN_PAGE_AT) < (uint64_t)1 << 3 * control[DEPTH_AT]
+        && get64(control + TURN_MASK_AT) != 0;
+}
+
 static int control_valid(const uint8_t *control)
 {
     if (memcmp(control, "PIGK", 4) != 0 || control[4] != 1 || control[6] != 1)
@@ -181,7 +212,7 @@ static int control_valid(const uint8_t *control)
     for (unsigned j = 0; j < control[COUNT_AT]; j++)
         if (get64(control + QUEUE_AT + PLACE * j) >= maps[control[DEPTH_AT]].cells)
             return 0;
-    return 1;
+    return turn_valid(control);
 }
 
 // ---- Answers ----
@@ -215,6 +246,13 @@ static uint32_t open_module(module *m, size_t keys_len, size_t control_len, size
     return cache_len != SLOT * (size_t)m->map->slots ? NV_BAD_CACHE_LENGTH : 0;
 }
 
+static uint32_t at_rest(const module *m)
+{
+    if (m->control[COUNT_AT] != 0)
+        return NV_PENDING;
+    return cache_formed(m, m->cache) ? 0 : NV_BAD_CACHE;
+}
+
 // The further checks of read and write before the path.
 static uint32_t open_line(const module *m, uint64_t line, size_t buffer_len)
 {
@@ -222,9 +260,17 @@ static uint32_t open_line(const module *m, uint64_t line, size_t buffer_len)
         return NV_BAD_BUFFER_LENGTH;
     if (line >= m->map->node[0])
         return NV_BAD_LINE;
-    if (m->control[COUNT_AT] != 0)
-        return NV_PENDING;
-    return cache_formed(m, m->cache) ? 0 : NV_BAD_CACHE;
+    uint32_t refusal = at_rest(m);
+    return refusal == 0 && is_open(m->control, line / 64) ? NV_OPEN_PAGE : refusal;
+}
+
+// The further checks of a turn before the path.
+static uint32_t open_turn(const module *m, uint64_t page)
+{
+    if (page >= m->map->node[0] / 64)
+        return NV_BAD_LINE;
+    uint32_t refusal = at_rest(m);
+    return refusal == 0 && m->control[TURN_AT] != 0 && !is_open(m->control, page) ? NV_OPEN_PAGE : refusal;
 }
 
 // ---- Path ----
@@ -331,6 +377,17 @@ static uint64_t run_batch(const module *m, unsigned count, uint64_t root, uint64
     return count + 1 + finish(m, count, allowance - count - 1);
 }
 
+// The same for a batch of a turn: the commit also sets the section for the lines that are left, to zeros if none is.
+static uint64_t run_turn_batch(const module *m, unsigned count, uint64_t root, uint64_t page, uint64_t left, uint64_t allowance)
+{
+    if (allowance > count) {
+        m->control[TURN_AT] = left != 0;
+        put64(m->control + TURN_PAGE_AT, left != 0 ? page : 0);
+        put64(m->control + TURN_MASK_AT, left);
+    }
+    return run_batch(m, count, root, allowance);
+}
+
 static uint64_t stores_needed(unsigned count)
 {
     return count == 0 ? 0 : 2 * (uint64_t)count + 3;
@@ -413,6 +470,17 @@ static void renew(const module *m, uint64_t page, const path *p, uint8_t block[8
     }
 }
 
+// The slots of the path with the renewed counter block and its tags; the nodes are dirty.
+static void renew_slots(uint64_t page, const path *p, unsigned depth, const uint8_t *block, int dirty, const uint64_t *tags)
+{
+    memcpy(p->slot[0] + CONTENT_AT, block, CONTENT);
+    p->slot[0][DIRTY_AT] = (uint8_t)dirty;
+    for (unsigned l = 1; l <= depth; l++) {
+        put64(p->slot[l] + CONTENT_AT + 8 * (page >> 3 * (l - 1) & 7), tags[l - 1]);
+        p->slot[l][DIRTY_AT] = 1;
+    }
+}
+
 static unsigned stage_block(const module *m, uint64_t page, const uint8_t *block, unsigned j, uint64_t allowance)
 {
     uint8_t *at = queue_place(m, j);
@@ -470,12 +538,88 @@ uint32_t NAME(write)(const uint8_t *keys, size_t keys_len, uint8_t *control, siz
     if (stores < stores_needed(count))
         return answer(numbers, NV_CUT, stores, 0, 0);
     load_slots(page, &p, m.depth);
-    memcpy(p.slot[0] + CONTENT_AT, block, CONTENT);
-    p.slot[0][DIRTY_AT] = minor % STOP_LOSS != 0;
-    for (unsigned l = 1; l <= m.depth; l++) {
-        put64(p.slot[l] + CONTENT_AT + 8 * (page >> 3 * (l - 1) & 7), tags[l - 1]);
-        p.slot[l][DIRTY_AT] = 1;
+    renew_slots(page, &p, m.depth, block, minor % STOP_LOSS != 0, tags);
+    return answer(numbers, NV_DONE, stores, 0, 0);
+}
+
+// ---- Turn ----
+
+// The first of the lines of a mask whose data cell is not what its minor says, or UINT64_MAX.
+static uint64_t bad_line(const module *m, uint64_t page, const uint8_t *block, uint64_t mask)
+{
+    for (; mask; mask &= mask - 1) {
+        unsigned place = (unsigned)__builtin_ctzll(mask);
+        uint64_t line = 64 * page + place;
+        const uint8_t *cell = m->array + CELL * line;
+        uint32_t minor = minor_of(block, place);
+        if (minor == 0 || data_side(m, cell, line, block, minor) != get64(cell + CONTENT))
+            return line;
     }
+    return UINT64_MAX;
+}
+
+// A line encrypted afresh under the turned block.
+static unsigned stage_turned(const module *m, uint64_t line, const uint8_t *block, const uint8_t *turned, unsigned j,
+                             uint64_t allowance)
+{
+    uint8_t text[CONTENT];
+    cipher(m, line, block, minor_of(block, line % 64), m->array + CELL * line, text);
+    return stage_data(m, line, turned, 1, text, j, allowance);
+}
+
+// The batches of a turn, as far as the allowance lets: one for each line of the mask, or one without a line.
+// Whether all stores were made.
+static int turn_lines(const module *m, uint64_t page, const path *p, const uint8_t *turned, uint64_t mask, uint64_t new_root,
+                      uint64_t allowance, uint64_t *stores)
+{
+    const uint8_t *block = p->content[0];
+    unsigned count = stage_path(m, page, p, allowance);
+    if (m->control[TURN_AT] == 0 && (mask & (mask - 1)) != 0)
+        count = stage_block(m, page, block, count, allowance);
+    for (;; count = 0) {
+        uint64_t left = mask & (mask - 1), room = allowance - *stores;
+        if (left == 0)
+            count = stage_block(m, page, turned, count, room);
+        if (mask != 0)
+            count = stage_turned(m, 64 * page + (unsigned)__builtin_ctzll(mask), block, turned, count, room);
+        *stores += run_turn_batch(m, count, left != 0 ? get64(m->control + ROOT_AT) : new_root, page, left, room);
+        if (room < stores_needed(count) || left == 0)
+            return room >= stores_needed(count);
+        mask = left;
+    }
+}
+
+uint32_t NAME(turn)(const uint8_t *keys, size_t keys_len, uint8_t *control, size_t control_len, uint8_t *array,
+                    size_t array_len, uint8_t *cache, size_t cache_len, uint64_t page, uint64_t allowance, uint8_t *numbers,
+                    size_t numbers_len)
+{
+    if (numbers_len != NV_NUMBERS_LENGTH)
+        return NV_REFUSED + NV_BAD_BUFFER_LENGTH;
+    module m = { keys, control, array, cache, 0, 0 };
+    uint32_t refusal = open_module(&m, keys_len, control_len, array_len, cache_len);
+    if (!refusal)
+        refusal = open_turn(&m, page);
+    if (refusal)
+        return refuse(numbers, refusal);
+    path p;
+    uint64_t tags[LEVELS], stores = 0;
+    int bad = find_path(&m, page, &p);
+    if (bad >= 0)
+        return answer(numbers, NV_REFUSED + NV_BAD_NODE, 0, (uint64_t)bad, page >> 3 * bad);
+    if (get64(p.content[0]) == UINT64_MAX)
+        return refuse(numbers, NV_WORN_PAGE);
+    uint8_t turned[80]; // the turned counter block, with room for its tag's level and index
+    uint64_t mask = turn_block(p.content[0], turned);
+    if (control[TURN_AT] != 0)
+        mask = get64(control + TURN_MASK_AT);
+    uint64_t line = bad_line(&m, page, p.content[0], mask);
+    if (line != UINT64_MAX)
+        return answer(numbers, NV_REFUSED + NV_BAD_DATA, 0, line, 0);
+    renew(&m, page, &p, turned, tags);
+    if (!turn_lines(&m, page, &p, turned, mask, tags[m.depth], allowance, &stores))
+        return answer(numbers, NV_CUT, stores, 0, 0);
+    load_slots(page, &p, m.depth);
+    renew_slots(page, &p, m.depth, turned, 0, tags);
     return answer(numbers, NV_DONE, stores, 0, 0);
 }
 
@@ -508,7 +652,7 @@ static const uint8_t *node_of(const module *m, const uint8_t *built, unsigned le
     return get64(slot) == index + 1 ? slot + CONTENT_AT : node_cell(m, level, index);
 }
 
-// Builds the cache that the shadow lists; a refusal or 0.
+// Builds the cache that the shadow lists, an open page's block as the array has it; a refusal or 0.
 static uint32_t rebuild(const module *m, uint8_t *built, uint64_t *sum, uint64_t *place)
 {
     const uint8_t *shadow = m->array + CELL * m->map->shadow;
@@ -534,7 +678,9 @@ static uint32_t rebuild(const module *m, uint8_t *built, uint64_t *sum, uint64_t
         unsigned level = level_of(i);
         if (owner == 0)
             continue;
-        if (level == 0 && !rebuild_block(m, index, content, sum))
+        if (level == 0 && is_open(m->control, index))
+            memcpy(content, node_cell(m, 0, index), CONTENT);
+        else if (level == 0 && !rebuild_block(m, index, content, sum))
             return NV_BAD_PHASE;
         for (unsigned c = 0; level > 0 && c < 8; c++)
             put64(content + 8 * c, node_tag(m, node_of(m, built, level - 1, 8 * index + c), level - 1, 8 * index + c));

@@ -2,14 +2,15 @@
 //
 //     recorder FILE [SEED]
 //
-// Makes a module in FILE, records numbered rows in it, loses power again and again, in recoveries and reads too, and goes
-// on from the file each time. At the end, and after each power failure, a witness takes a copy of the file, recovers it,
-// reads every row and holds it to the latest text that was recorded. Ends with status 0 only if all of them are there.
+// Makes a module in FILE, records numbered rows in it, turns the pages of worn ones, loses power again and again, in
+// recoveries, reads and turns too, and goes on from the file each time. At the end, and after each power failure, a witness
+// takes a copy of the file, recovers it, reads every row and holds it to the latest text that was recorded. Ends with status
+// 0 only if all of them are there.
 //
 //     cc -std=c99 -I dist examples/recorder.c dist/libnightvelvet.a -o recorder
 //
-// To copy from: the module, its file, the calls, and `power_up`, `read_row`, `record`. The supply, the book and the
-// witness are there to try them. Firmware gives UINT64_MAX for every allowance, and the power fails by itself.
+// To copy from: the module, its file, the calls, and `power_up`, `turned`, `read_row`, `record`. The supply, the book and
+// the witness are there to try them. Firmware gives UINT64_MAX for every allowance, and the power fails by itself.
 #include "nightvelvet.h"
 
 #include <inttypes.h>
@@ -17,7 +18,7 @@
 #include <stdlib.h>
 #include <string.h>
 
-enum { DEPTH = 1, ROWS = NV_LINES_1, HOT_ROWS = 5, RECORDS = 1500 };
+enum { DEPTH = 1, ROWS = NV_LINES_1, PAGE_ROWS = 64, HOT_ROWS = 5, RECORDS = 1500 };
 
 // ---- The module ----
 
@@ -31,12 +32,17 @@ typedef struct {
 // Each module has keys of its own, made once, by a secure generator. Those of this example are made from the seed.
 static uint8_t keys[NV_KEYS_LENGTH];
 
-static uint64_t number_at(const module *m, int at)
+static uint64_t number_in(const uint8_t *bytes)
 {
     uint64_t x = 0;
     for (int i = 7; i >= 0; i--)
-        x = x << 8 | m->numbers[at + i];
+        x = x << 8 | bytes[i];
     return x;
+}
+
+static uint64_t number_at(const module *m, int at)
+{
+    return number_in(m->numbers + at);
 }
 
 static uint32_t call_format(module *m)
@@ -55,6 +61,12 @@ static uint32_t call_write(module *m, uint64_t line, const uint8_t text[NV_TEXT_
 {
     return nv_write(keys, sizeof keys, m->control, sizeof m->control, m->array, sizeof m->array, m->cache, sizeof m->cache,
                     line, text, NV_TEXT_LENGTH, allowance, m->numbers, sizeof m->numbers);
+}
+
+static uint32_t call_turn(module *m, uint64_t page, uint64_t allowance)
+{
+    return nv_turn(keys, sizeof keys, m->control, sizeof m->control, m->array, sizeof m->array, m->cache, sizeof m->cache,
+                   page, allowance, m->numbers, sizeof m->numbers);
 }
 
 static uint32_t call_recover(module *m, uint64_t allowance)
@@ -89,8 +101,12 @@ static const char *meaning(uint32_t code)
     case NV_REFUSED + NV_PENDING:
     case NV_REFUSED + NV_BAD_CACHE:
         return "a fault of the caller: no recovery since the power came back";
+    case NV_REFUSED + NV_OPEN_PAGE:
+        return "a fault of the caller: a turn is not finished";
     case NV_REFUSED + NV_WORN:
-        return "the line was written 127 times";
+        return "the line is worn, and its page was turned";
+    case NV_REFUSED + NV_WORN_PAGE:
+        return "the page cannot be turned again";
     case NV_REFUSED + NV_BAD_CONTROL:
         return "the control record is damaged, or no module was ever formatted here";
     case NV_REFUSED + NV_BAD_NODE:
@@ -153,7 +169,7 @@ static void load(module *m)
 static uint64_t state, supply;
 
 static struct {
-    unsigned done, committed, lost, worn, in_writes, in_reads, in_recoveries, recoveries;
+    unsigned done, committed, lost, in_writes, in_reads, in_turns, in_recoveries, recoveries, turns, resumed;
     uint64_t sum;
 } seen;
 
@@ -190,21 +206,50 @@ static void used(module *m)
 
 // ---- The recorder ----
 
-// When power comes back a recovery is the first call, and as often as power fails in it, it is made again.
-static void power_up(module *m)
+// Whether power lasted for a recovery.
+static int recovered(module *m)
 {
-    for (;;) {
-        start_again(m);
-        uint32_t code = call_recover(m, supply);
-        used(m);
-        if (code == NV_DONE)
-            break;
-        if (code != NV_CUT)
-            stop("recovery", code, m);
+    uint32_t code = call_recover(m, supply);
+    used(m);
+    if (code != NV_DONE && code != NV_CUT)
+        stop("recovery", code, m);
+    if (code == NV_CUT) {
         seen.in_recoveries++;
+        return 0;
     }
     seen.recoveries++;
     seen.sum += number_at(m, NV_SUM_AT);
+    return 1;
+}
+
+// Whether power lasted for a turn of a page.
+static int turned(module *m, uint64_t page)
+{
+    uint32_t code = call_turn(m, page, supply);
+    used(m);
+    if (code != NV_DONE && code != NV_CUT)
+        stop("turn", code, m);
+    if (code == NV_CUT)
+        seen.in_turns++;
+    return code == NV_DONE;
+}
+
+// Whether power lasted for what is left of a turn, if a page is open.
+static int resumed(module *m)
+{
+    if (m->control[NV_TURN_AT] == 0)
+        return 1;
+    seen.resumed++;
+    return turned(m, number_in(m->control + NV_TURN_PAGE_AT));
+}
+
+// When power comes back a recovery is the first call, and then a turn that power failed in is finished. As often as power
+// fails in one of them, both are made again.
+static void power_up(module *m)
+{
+    do
+        start_again(m);
+    while (!recovered(m) || !resumed(m));
 }
 
 // The text of a row; whether it has one.
@@ -237,19 +282,23 @@ static int has_new(module *m, unsigned row, const uint8_t *old, const uint8_t *n
 }
 
 // Gives a row a new text; `old` is the text that it has, or NULL. After a power failure only the row itself tells whether
-// the write was committed; where it was not, it is made again. Whether the text is recorded: a line can be worn.
-static int record(module *m, unsigned row, const uint8_t *old, const uint8_t *new)
+// the write was committed; where it was not, it is made again. The page of a worn row is turned first; where power fails
+// before the turn has left a trace, the row is still worn, and the turn is made again too.
+static void record(module *m, unsigned row, const uint8_t *old, const uint8_t *new)
 {
-    for (;;) {
+    for (int fresh = 0;;) {
         uint32_t code = call_write(m, row, new, supply);
         used(m);
         if (code == NV_DONE) {
             seen.done++;
-            return 1;
+            return;
         }
-        if (code == NV_REFUSED + NV_WORN) {
-            seen.worn++;
-            return 0;
+        if (code == NV_REFUSED + NV_WORN && !fresh) {
+            seen.turns++;
+            fresh = turned(m, row / PAGE_ROWS);
+            if (!fresh)
+                power_up(m);
+            continue;
         }
         if (code != NV_CUT)
             stop("write", code, m);
@@ -257,7 +306,7 @@ static int record(module *m, unsigned row, const uint8_t *old, const uint8_t *ne
         power_up(m);
         if (has_new(m, row, old, new)) {
             seen.committed++;
-            return 1;
+            return;
         }
         seen.lost++;
     }
@@ -321,8 +370,8 @@ static unsigned record_all(module *m)
     for (int n = 0; n < RECORDS && wrong == 0; n++) {
         unsigned row = next_row(), recoveries = seen.recoveries;
         const uint8_t *had = text_of(row, latest[row], old);
-        if (record(m, row, had, text_of(row, latest[row] + 1, new)))
-            latest[row]++;
+        record(m, row, had, text_of(row, latest[row] + 1, new));
+        latest[row]++;
         if (seen.recoveries != recoveries)
             wrong = wrong_rows();
     }
@@ -355,10 +404,11 @@ int main(int count, char **words)
     unsigned written = 0;
     for (unsigned row = 0; row < ROWS; row++)
         written += latest[row] > 0;
-    printf("recorder: %u writes done, %u more committed before the power failed in them, %u made again, %u refused: line worn\n",
-           seen.done, seen.committed, seen.lost, seen.worn);
-    printf("recorder: power failed %u times in writes, %u in reads, %u in recoveries\n", seen.in_writes, seen.in_reads,
-           seen.in_recoveries);
+    printf("recorder: %u writes done, %u more committed before the power failed in them, %u made again\n", seen.done,
+           seen.committed, seen.lost);
+    printf("recorder: %u turns of a worn row's page begun, %u times resumed\n", seen.turns, seen.resumed);
+    printf("recorder: power failed %u times in writes, %u in reads, %u in turns, %u in recoveries\n", seen.in_writes,
+           seen.in_reads, seen.in_turns, seen.in_recoveries);
     printf("recorder: %u recoveries brought counters forward by %" PRIu64 " in all\n", seen.recoveries, seen.sum);
     printf("recorder: %u rows of %u written, %u without their latest text\n", written, (unsigned)ROWS, wrong);
     return wrong != 0;

@@ -8,7 +8,8 @@
 //   - each pointer is good for its length: for reading where it is const, else for reading and writing;
 //   - no two slices of a call overlap, and nothing else changes them while the call runs.
 // Every other input has a stated answer. A slice of length 0 has a wrong length in every call, so it is refused with
-// nothing read or written through its pointer, which may then be null. Lines, depths and allowances may be any number.
+// nothing read or written through its pointer, which may then be null. Lines, pages, depths and allowances may be any
+// number.
 #ifndef NIGHTVELVET_H
 #define NIGHTVELVET_H
 
@@ -22,7 +23,7 @@ extern "C" {
 // Lengths in bytes. The depth of a module is 1, 2 or 3; a depth h has 8^h pages of 64 lines.
 enum {
     NV_KEYS_LENGTH = 48,        // keys: 32 bytes for the pads, then 16 for the tags
-    NV_CONTROL_LENGTH = 664,    // the control record
+    NV_CONTROL_LENGTH = 681,    // the control record
     NV_TEXT_LENGTH = 64,        // the text of a line, as read or written
     NV_LIST_LENGTH = 32,        // the list of dirty pages
     NV_NUMBERS_LENGTH = 24,     // the numbers of an answer
@@ -55,18 +56,20 @@ enum {
     NV_BAD_CONTROL_LENGTH = 3,  // the control record is not of NV_CONTROL_LENGTH
     NV_BAD_ARRAY_LENGTH = 4,    // the array has not the length of the depth
     NV_BAD_CACHE_LENGTH = 5,    // the cache has not the length of the depth
-    NV_BAD_LINE = 6,            // the module has no such line
+    NV_BAD_LINE = 6,            // the module has no such line; of a turn: no such page
     NV_BAD_BUFFER_LENGTH = 7,   // text, output, list or numbers have a wrong length
 
-    NV_BAD_CONTROL = 21,        // the control record's mark, depth, a count or a pending cell number is wrong
+    NV_BAD_CONTROL = 21,        // the control record's mark, depth, a count, a pending cell or the open page is wrong
     NV_PENDING = 22,            // a batch is pending: recover first
     NV_BAD_CACHE = 23,          // the cache is not one that a call leaves: recover first
     NV_BAD_NODE = 24,           // a counter block or tree node has not its tag; place: level, index
-    NV_BAD_DATA = 25,           // a data cell has not its phase or tag; place: line
-    NV_WORN = 26,               // the line was written 127 times and cannot be written again
+    NV_BAD_DATA = 25,           // a data cell has not its phase or tag, or no text where a turn is to go on; place: line
+    NV_WORN = 26,               // the line's counter is at 127: turn its page, then write
     NV_BAD_SHADOW = 27,         // recovery: the shadow lists what no cache holds; place: slot
     NV_BAD_PHASE = 28,          // recovery: a phase is no phase, or brings a counter past 127
-    NV_BAD_ROOT = 29            // recovery: the rebuilt tree has not the module's root
+    NV_BAD_ROOT = 29,           // recovery: the rebuilt tree has not the module's root
+    NV_OPEN_PAGE = 30,          // the line's page is open: finish its turn first; of a turn: another page is open
+    NV_WORN_PAGE = 31           // turn: the page was turned 2^64 - 1 times
 };
 
 // Numbers of an answer: three of 8 bytes, little-endian, written whenever `numbers` is of NV_NUMBERS_LENGTH.
@@ -76,6 +79,12 @@ enum {
     NV_SUM_AT = 8,     // of a done recovery: by how much counters were brought forward
     NV_FIRST_AT = 8,   // of a refusal: the first number of its place, or 0
     NV_SECOND_AT = 16  // of a refusal: the second number of its place, or 0
+};
+
+// Where the control record says whether a page is open. To be read after a recovery that is done.
+enum {
+    NV_TURN_AT = 664,     // 1 if a page is open, else 0
+    NV_TURN_PAGE_AT = 665 // the open page, 8 bytes, little-endian
 };
 
 // Makes the module empty at a depth from 1 to 3. Makes no counted store; a power failure in it is not covered.
@@ -92,6 +101,14 @@ uint32_t nv_read(const uint8_t *keys, size_t keys_len, uint8_t *control, size_t 
 uint32_t nv_write(const uint8_t *keys, size_t keys_len, uint8_t *control, size_t control_len, uint8_t *array,
                   size_t array_len, uint8_t *cache, size_t cache_len, uint64_t line, const uint8_t *text,
                   size_t text_len, uint64_t allowance, uint8_t *numbers, size_t numbers_len);
+
+// Turns a page, with at most `allowance` stores: encrypts its written lines afresh, each with its counter at 1. Texts stay.
+// To be called for the page of a line whose write is refused as NV_WORN; the line can then be written 126 times more. Makes
+// at most 336 stores. A cut or a power failure in it may leave the page open: recover, then turn the same page again, which
+// goes on with the lines that are left. Until then its lines are neither read nor written, and no other page is turned.
+uint32_t nv_turn(const uint8_t *keys, size_t keys_len, uint8_t *control, size_t control_len, uint8_t *array,
+                 size_t array_len, uint8_t *cache, size_t cache_len, uint64_t page, uint64_t allowance, uint8_t *numbers,
+                 size_t numbers_len);
 
 // Brings the module back after a power failure, whatever the cache then holds, with at most `allowance` stores.
 uint32_t nv_recover(const uint8_t *keys, size_t keys_len, uint8_t *control, size_t control_len, uint8_t *array,

@@ -4,7 +4,9 @@
 // change only from what they are before the next store of the call to what they are after it, so the stores come in their
 // sequence, none before the one before it is whole, none left out, and nothing else changes. In the commit the count is
 // the last byte to change. And from the raw memory after each instruction that changed it, torn stores and all, a recovery
-// with another cache must be done and give every line's count and text as the book has them.
+// with another cache must be done and give every line's count and text as the book has them; of an open page when its turn
+// has been finished. A turn's commit sets bytes in two places and is taken as one store: no recovery starts inside it, and
+// how many instructions it takes is told.
 #include "module.h"
 #include <signal.h>
 #include <sys/mman.h>
@@ -12,17 +14,18 @@
 #include <sys/wait.h>
 #include <unistd.h>
 
-enum { STORES = 19, LINES_READ = 800, LONG = 1000000 };
+enum { STORES = 31, LINES_READ = 800, LONG = 1000000 };
 enum { ROOT_AT = 7, COUNT_AT = 15, NEW_ROOT_AT = 16, QUEUE_AT = 24, PLACE = 80, CELL = 72, SLOT = 73 };
 
 static const calls ours = CALLS_OF(nv_);
 
 // Control record and array lie one after the other, so that one comparison sees both.
 typedef struct {
-    uint8_t *whole[STORES + 1]; // both after each number of stores
-    unsigned stores, batch;     // how many the call makes; the cells of its batch, or STORES if it has no commit
-    uint64_t line;              // the line it writes, if it has a commit that commits a write
-    int writes;
+    uint8_t *whole[STORES + 1];  // both after each number of stores
+    uint8_t commit[STORES + 1];  // whether a store is the commit of a batch
+    unsigned stores, batches;    // how many the call makes
+    uint64_t line, page;         // the line it reads or writes; the page it turns, or that is open
+    int writes, turns, open;     // whether its commits commit a write or a turn; whether a page is open before it
 } listed;
 
 typedef struct {
@@ -32,6 +35,7 @@ typedef struct {
 
 typedef struct {
     long instructions, changes, recoveries;
+    long commit, longest; // the instruction at which the commit of a turn began, or 0; the instructions of the longest
     const char *fault;
 } seen;
 
@@ -64,20 +68,37 @@ static module joined(unsigned depth, void *(*get)(size_t))
 
 // ---- What is expected ----
 
-// Whether each store is the paper's: the queue's places, the commit, the cells of the queue, the root, count 0. A recovery
-// starts after the commit, and makes no store if nothing is pending.
-static int in_sequence(const listed *l, unsigned cells, unsigned first)
+static int same_but(const uint8_t *before, const uint8_t *after, size_t at, size_t n)
 {
-    if (l->stores != (cells ? 2 * cells + 3 - first : 0))
-        return 0;
-    for (unsigned k = 0; k < l->stores; k++) {
-        const uint8_t *before = l->whole[k], *after = l->whole[k + 1], *from = after;
-        unsigned t = k + first;
+    return memcmp(before, after, at) == 0 && memcmp(before + at + n, after + at + n, length - at - n) == 0;
+}
+
+// The commit: count and new root, of a turn also the section.
+static int commit_fits(const listed *l, const uint8_t *before, const uint8_t *after, unsigned cells)
+{
+    static uint8_t expected[NV_CONTROL_LENGTH];
+    memcpy(expected, before, NV_CONTROL_LENGTH);
+    memcpy(expected + COUNT_AT, after + COUNT_AT, 9);
+    if (l->turns)
+        memcpy(expected + NV_TURN_AT, after + NV_TURN_AT, NV_CONTROL_LENGTH - NV_TURN_AT);
+    return after[COUNT_AT] == cells && memcmp(expected, after, NV_CONTROL_LENGTH) == 0
+        && same_but(before, after, 0, NV_CONTROL_LENGTH);
+}
+
+// Whether each store of a batch is the paper's: the queue's places, the commit, the cells of the queue, the root, count 0.
+// A recovery starts after the commit.
+static int in_sequence(const listed *l, unsigned start, unsigned cells, unsigned first)
+{
+    for (unsigned t = first; t < 2 * cells + 3; t++) {
+        const uint8_t *before = l->whole[start + t - first], *after = l->whole[start + t - first + 1], *from = after;
         size_t at = COUNT_AT, n = 1;
+        if (t == cells) {
+            if (!commit_fits(l, before, after, cells))
+                return 0;
+            continue;
+        }
         if (t < cells) {
             at = QUEUE_AT + PLACE * t, n = PLACE, from = after + at;
-        } else if (t == cells) {
-            n = 9, from = after + at;
         } else if (t <= 2 * cells) {
             const uint8_t *place = before + QUEUE_AT + PLACE * (t - cells - 1);
             uint64_t cell;
@@ -87,16 +108,42 @@ static int in_sequence(const listed *l, unsigned cells, unsigned first)
             at = ROOT_AT, n = 8, from = before + NEW_ROOT_AT;
         }
         int content = t == 2 * cells + 2 ? after[at] == 0 : memcmp(after + at, from, n) == 0;
-        if (!content || (t == cells && after[at] != cells) || memcmp(before, after, at) != 0
-            || memcmp(before + at + n, after + at + n, length - at - n) != 0)
+        if (!content || !same_but(before, after, at, n))
             return 0;
     }
     return 1;
 }
 
+// Whether the stores are those of batches, one after the other; notes their commits.
+static int in_batches(listed *l)
+{
+    for (unsigned start = 0; start < l->stores; l->batches++) {
+        unsigned cells = 0;
+        while (start + cells < l->stores && l->whole[start + cells + 1][COUNT_AT] == 0)
+            cells++;
+        if (start + 2 * cells + 3 > l->stores || !in_sequence(l, start, cells, 0))
+            return 0;
+        l->commit[start + cells] = 1;
+        start += 2 * cells + 3;
+    }
+    return 1;
+}
+
+static int of_recovery(const listed *l, unsigned cells)
+{
+    return l->stores == (cells ? cells + 2 : 0) && (cells == 0 || in_sequence(l, 0, cells, cells + 1));
+}
+
 // The memory after each store, by the same call under each allowance.
 static void list_stores(listed *l, const module *start, enum scenario s)
 {
+    memset(l->commit, 0, sizeof l->commit);
+    l->batches = 0;
+    l->writes = writes(s);
+    l->turns = turns(s);
+    l->line = scenario_line(s, start->depth);
+    l->page = scenario_page(s, start->depth);
+    l->open = start->control[NV_TURN_AT];
     for (l->stores = 0;; l->stores++) {
         need(l->stores <= STORES);
         copy_module(&trial, start);
@@ -106,11 +153,7 @@ static void list_stores(listed *l, const module *start, enum scenario s)
         if (code != NV_CUT)
             break;
     }
-    need(recovers(s) ? in_sequence(l, start->control[COUNT_AT], start->control[COUNT_AT] + 1u)
-                     : l->stores == 0 || in_sequence(l, (l->stores - 3) / 2, 0));
-    l->batch = recovers(s) || l->stores == 0 ? STORES : (l->stores - 3) / 2;
-    l->writes = writes(s);
-    l->line = scenario_line(s, start->depth);
+    need(recovers(s) ? of_recovery(l, start->control[COUNT_AT]) : in_batches(l));
 }
 
 static unsigned minor_of(const module *m, uint64_t line)
@@ -123,10 +166,15 @@ static unsigned minor_of(const module *m, uint64_t line)
     return (block[8 + bit / 8] | (bit / 8 < 55 ? block[9 + bit / 8] : 0) << 8) >> bit % 8 & 127;
 }
 
+// If a page is open, the book is that of the turn finished.
 static void keep_book(const book *b, const module *from)
 {
     copy_module(&trial, from);
     need(call_recover(&trial, UNLIMITED) == NV_DONE);
+    uint64_t page;
+    memcpy(&page, trial.control + NV_TURN_PAGE_AT, 8);
+    if (trial.control[NV_TURN_AT])
+        need(call_turn(&trial, page, UNLIMITED) == NV_DONE);
     for (uint64_t line = 0; line < trial.lines; line++)
         b->count[line] = (uint8_t)minor_of(&trial, line);
     for (uint64_t line = 0; line < trial.lines; line++) {
@@ -137,11 +185,11 @@ static void keep_book(const book *b, const module *from)
 
 // ---- Recovery from raw memory ----
 
-static const char *line_fault(const book *b, const listed *l, int committed, uint64_t line)
+static const char *line_fault(const book *b, const listed *l, unsigned committed, int turned, uint64_t line)
 {
     int changed = committed && l->writes && line == l->line;
     const uint8_t *text = changed ? live.text : b->text + NV_TEXT_LENGTH * line;
-    unsigned count = b->count[line] + (unsigned)changed;
+    unsigned count = turned && line / 64 == l->page ? b->count[line] != 0 : b->count[line] + (unsigned)changed;
     if (minor_of(&trial, line) != count)
         return "after recovery a counter is not the book's";
     if (call_read(&trial, line, UNLIMITED) != (count ? NV_DONE : NV_BLANK) || memcmp(trial.out, text, NV_TEXT_LENGTH) != 0)
@@ -149,17 +197,34 @@ static const char *line_fault(const book *b, const listed *l, int committed, uin
     return NULL;
 }
 
-static const char *recovery_fault(const book *b, const listed *l, int committed, long turn)
+// Finishes the turn of a page that is open, as it must be after so many commits.
+static const char *turn_fault(const listed *l, int open)
 {
+    if (trial.control[NV_TURN_AT] != open)
+        return "after recovery another page is open";
+    if (open && call_read(&trial, 64 * l->page + 1, UNLIMITED) != NV_REFUSED + NV_OPEN_PAGE)
+        return "an open page is read";
+    if (open && call_turn(&trial, l->page, UNLIMITED) != NV_DONE)
+        return "an open page is not turned";
+    return NULL;
+}
+
+static const char *recovery_fault(const book *b, const listed *l, unsigned committed, long turn)
+{
+    int finished = l->turns && committed == l->batches, open = !finished && (l->open || (l->turns && committed > 0));
     memcpy(trial.control, live.control, length);
     for (size_t i = 0; i < trial.cache_len; i++)
         trial.cache[i] = turn % 3 == 0 ? 0 : turn % 3 == 1 ? 0xff : (uint8_t)(i * i + (size_t)turn);
     if (call_recover(&trial, UNLIMITED) != NV_DONE)
         return "recovery from raw memory is not done";
     uint64_t step = trial.lines / LINES_READ + 1;
-    const char *fault = line_fault(b, l, committed, l->line);
+    const char *fault = turn_fault(l, open);
+    for (uint64_t place = 0; place < 64 && !fault && l->turns; place++)
+        fault = line_fault(b, l, committed, finished || open, 64 * l->page + place);
+    if (!fault)
+        fault = line_fault(b, l, committed, finished || open, l->line);
     for (uint64_t line = (uint64_t)turn % step; line < trial.lines && !fault; line += step)
-        fault = line_fault(b, l, committed, line);
+        fault = line_fault(b, l, committed, finished || open, line);
     return fault;
 }
 
@@ -180,21 +245,31 @@ static unsigned check_change(const listed *l, unsigned made, seen *see)
             return made;
         }
     int whole = memcmp(now, after, length) == 0;
-    if (made == l->batch && now[COUNT_AT] != last[COUNT_AT] && !whole)
+    if (l->commit[made] && !l->turns && now[COUNT_AT] != last[COUNT_AT] && !whole)
         see->fault = "the count is not the last byte of the commit to change";
+    if (l->commit[made] && l->turns) {
+        if (see->commit == 0)
+            see->commit = see->instructions;
+        if (see->instructions - see->commit + 1 > see->longest)
+            see->longest = see->instructions - see->commit + 1;
+        if (whole)
+            see->commit = 0;
+    }
     while (made < l->stores && memcmp(now, l->whole[made + 1], length) == 0)
         made++;
     return made;
 }
 
-// Whether memory has changed since `last`. A long array's data cells, but for the line's own, are looked at now and then.
+// Whether memory has changed since `last`. A long array's data cells, but for the line's or page's own, are looked at now
+// and then.
 static int differs(const listed *l, long turn)
 {
-    size_t data = CELL * live.lines, own = CELL * l->line;
+    int page = l->turns || l->open;
+    size_t data = CELL * live.lines, own = CELL * (page ? 64 * l->page : l->line), cells = page ? 64 : 1;
     if (length < LONG || turn % 256 == 0)
         return memcmp(live.control, last, length) != 0;
     const uint8_t *array = last + NV_CONTROL_LENGTH;
-    return memcmp(live.control, last, NV_CONTROL_LENGTH) != 0 || memcmp(live.array + own, array + own, CELL) != 0
+    return memcmp(live.control, last, NV_CONTROL_LENGTH) != 0 || memcmp(live.array + own, array + own, cells * CELL) != 0
         || memcmp(live.array + data, array + data, live.array_len - data) != 0;
 }
 
@@ -236,7 +311,7 @@ static void step_through(enum scenario s, const listed *l, seen *see, void (*eac
         see->changes++;
         made = check_change(l, made, see);
         memcpy(last, live.control, length);
-        if (!see->fault)
+        if (!see->fault && see->commit == 0)
             each(l, made, see);
     }
     if (!see->fault && memcmp(live.control, last, length) != 0)
@@ -247,9 +322,13 @@ static void step_through(enum scenario s, const listed *l, seen *see, void (*eac
 
 static book kept;
 
-static int committed(const listed *l, unsigned made)
+// How many batches are committed by so many stores.
+static unsigned committed(const listed *l, unsigned made)
 {
-    return made > l->batch;
+    unsigned count = 0;
+    for (unsigned k = 0; k < made; k++)
+        count += l->commit[k];
+    return count;
 }
 
 static void recover_each(const listed *l, unsigned made, seen *see)
@@ -273,13 +352,16 @@ static void keep_each(const listed *l, unsigned made, seen *see)
     need(raw != NULL);
     raw[raws].memory = owned(length);
     memcpy(raw[raws].memory, live.control, length);
-    raw[raws++].committed = committed(l, made);
+    raw[raws++].committed = committed(l, made) == l->batches;
 }
 
 static int tell(const char *what, unsigned depth, const listed *l, const seen *see)
 {
-    printf("instructions: depth %u: %-24s %3u stores, %6ld instructions, %4ld raw states%s%s\n", depth, what, l->stores,
-           see->instructions, see->changes, see->fault ? ": FAILED: " : "", see->fault ? see->fault : "");
+    printf("instructions: depth %u: %-24s %3u stores, %6ld instructions, %4ld raw states", depth, what, l->stores,
+           see->instructions, see->changes);
+    if (see->longest)
+        printf(", a commit in %ld instructions", see->longest);
+    printf("%s%s\n", see->fault ? ": FAILED: " : "", see->fault ? see->fault : "");
     return see->fault != NULL;
 }
 
@@ -298,12 +380,14 @@ static void set_up(unsigned depth)
     kept = (book){ owned(NV_TEXT_LENGTH * live.lines), owned(live.lines) };
 }
 
-// What lies in the queue before must not look like what is staged there.
+// What lies in the queue before, and behind a turn's count of 0, must not look like what is staged there.
 static void start(enum scenario s)
 {
     prepare(&live, s);
-    for (int i = NEW_ROOT_AT; i < NV_CONTROL_LENGTH && live.control[COUNT_AT] == 0; i++)
-        live.control[i] = (uint8_t)(0x80 | i * 3);
+    int end = live.control[NV_TURN_AT] ? NV_TURN_AT : NV_CONTROL_LENGTH;
+    for (int i = NEW_ROOT_AT; i < end && live.control[COUNT_AT] == 0; i++)
+        if (i != NV_TURN_AT)
+            live.control[i] = (uint8_t)(0x80 | i * 3);
 }
 
 static int one(enum scenario s, unsigned depth)
@@ -314,14 +398,16 @@ static int one(enum scenario s, unsigned depth)
     start(s);
     keep_book(&kept, &live);
     list_stores(&l, &live, s);
-    need(s != FULL_WRITE || l.batch == 2 * depth + 2);
+    need(s != FULL_WRITE || l.commit[2 * depth + 2]);
+    need(s != EVICTING_TURN || (l.commit[2 * depth + 2] && l.batches == 3));
     step_through(s, &l, &see, recover_each);
     for (int k = 0; k <= STORES; k++)
         free(l.whole[k]);
     return tell(scenario_names[s], depth, &l, &see);
 }
 
-static int again(enum scenario s, unsigned depth)
+// From each of its raw states, or every so many.
+static int again(enum scenario s, unsigned depth, unsigned each)
 {
     listed l, repair;
     seen see = { 0 }, all = { 0 };
@@ -335,7 +421,7 @@ static int again(enum scenario s, unsigned depth)
     step_through(s, &l, &see, keep_each);
     keep_book(&after, &live);
     all.fault = see.fault;
-    for (unsigned i = 0; i < raws && !all.fault; i++) {
+    for (unsigned i = 0; i < raws && !all.fault; i += each) {
         memcpy(live.control, raw[i].memory, length);
         memset(live.cache, 0x6b, live.cache_len);
         kept = raw[i].committed ? after : before;
@@ -349,21 +435,24 @@ static int again(enum scenario s, unsigned depth)
     for (unsigned i = 0; i < raws; i++)
         free(raw[i].memory);
     kept = before;
-    return tell("recovery from each", depth, &l, &all);
+    return tell(each == 1 ? "recovery from each" : "recovery from some", depth, &l, &all);
 }
 
 int main(void)
 {
     static const enum scenario tried[] = { FIRST_READ, EVICTING_READ, CACHED_WRITE, STOP_LOSS_WRITE, EVICTING_WRITE,
-                                           FULL_WRITE, IDLE_RECOVERY, SMALL_RECOVERY, FULL_RECOVERY };
+                                           FULL_WRITE, SMALL_TURN, EVICTING_TURN, RESUMED_TURN, IDLE_RECOVERY,
+                                           SMALL_RECOVERY, FULL_RECOVERY, TURN_RECOVERY };
     int passed = 0, failed = 0;
     answered = shared(4);
     for (unsigned depth = 1; depth <= 3; depth++) {
         set_up(depth);
         for (size_t i = 0; i < sizeof tried / sizeof *tried; i++)
             one(tried[i], depth) ? failed++ : passed++;
-        if (depth == 1)
-            again(EVICTING_WRITE, depth) ? failed++ : passed++;
+        if (depth == 1) {
+            again(EVICTING_WRITE, depth, 1) ? failed++ : passed++;
+            again(SMALL_TURN, depth, 3) ? failed++ : passed++;
+        }
     }
     printf("instructions: %d passed, %d failed\n", passed, failed);
     return failed != 0;

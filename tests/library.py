@@ -15,10 +15,11 @@ SEQUENCES = {
     "format": ("depth", "keys", "control", "array", "cache", "numbers"),
     "read": ("keys", "control", "array", "cache", "line", "out", "allowance", "numbers"),
     "write": ("keys", "control", "array", "cache", "line", "text", "allowance", "numbers"),
+    "turn": ("keys", "control", "array", "cache", "page", "allowance", "numbers"),
     "recover": ("keys", "control", "array", "cache", "allowance", "numbers"),
     "dirty_pages": ("control", "cache", "list", "numbers"),
 }
-COUNTS = ("depth", "line", "allowance")
+COUNTS = ("depth", "line", "page", "allowance")
 SLICES = {name: tuple(part for part in parts if part not in COUNTS) for name, parts in SEQUENCES.items()}
 
 DONE, BLANK, CUT, REFUSED = 0, 1, 2, 100
@@ -188,6 +189,9 @@ class Session:
         self.put("text", text)
         return self.make("write", line=line, allowance=allowance)
 
+    def turn(self, page, allowance=model.UNLIMITED):
+        return self.make("turn", page=page, allowance=allowance)
+
     def recover(self, allowance=model.UNLIMITED):
         return self.make("recover", allowance=allowance)
 
@@ -209,6 +213,11 @@ def by_model_write(keys, control, array, cache, line, text, allowance, numbers):
     return answer, (keys, module.control, module.array, module.cache, text)
 
 
+def by_model_turn(keys, control, array, cache, page, allowance, numbers):
+    answer, module = model.turn_call(keys, page, allowance, model.Module(array, control, cache))
+    return answer, (keys, module.control, module.array, module.cache)
+
+
 def by_model_recover(keys, control, array, cache, allowance, numbers):
     answer, module = model.recover_call(keys, allowance, model.Module(array, control, cache))
     return answer, (keys, module.control, module.array, module.cache)
@@ -219,8 +228,8 @@ def by_model_dirty_pages(control, cache, listed, numbers):
     return answer, (control, cache, listed)
 
 
-BY_MODEL = {"format": by_model_format, "read": by_model_read, "write": by_model_write, "recover": by_model_recover,
-            "dirty_pages": by_model_dirty_pages}
+BY_MODEL = {"format": by_model_format, "read": by_model_read, "write": by_model_write, "turn": by_model_turn,
+            "recover": by_model_recover, "dirty_pages": by_model_dirty_pages}
 
 
 def by_model(name, arguments):

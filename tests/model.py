@@ -1,7 +1,7 @@
 """Reference model of the encrypted memory module and its recovery.
 
 Each call is a pure function: it takes immutable bytes and gives new ones.
-Lines, depths and allowances are unsigned 64-bit numbers.
+Lines, pages, depths and allowances are unsigned 64-bit numbers.
 """
 
 import re
@@ -13,8 +13,8 @@ from functools import lru_cache
 Answer = namedtuple("Answer", "kind number stores first second")
 Module = namedtuple("Module", "array control cache")
 
-# One atomic store: target is 'array' or 'control'.
-Store = namedtuple("Store", "target offset data")
+# One atomic store: target is 'array' or 'control', pieces are (offset, data).
+Store = namedtuple("Store", "target pieces")
 Slot = namedtuple("Slot", "owner dirty content")
 
 UNLIMITED = 2**64 - 1
@@ -30,7 +30,7 @@ COUNTER_SLOTS = 4
 LIST_LENGTH = 32
 
 # The control record.
-CONTROL_LENGTH = 664
+CONTROL_LENGTH = 681
 MARK = b"PIGK"
 DEPTH_AT = 5
 ROOT_AT = 7
@@ -39,8 +39,13 @@ NEW_ROOT_AT = 16
 QUEUE_AT = 24
 QUEUE_PLACES = 8
 PLACE = 8 + CELL
+# Its section of a turn that is not finished: count, page, mask.
+TURN_AT = 664
+TURN_PAGE_AT = 665
+TURN_MASK_AT = 673
 
 MINOR_MAX = 127
+MAJOR_MAX = MASK64
 STOP_LOSS = 4
 
 
@@ -284,25 +289,33 @@ def cache_formed(h, found):
 
 # ---- Stores ----
 
+def store_at(target, offset, data):
+    return Store(target, ((offset, data),))
+
+
 def store_cell(cell, data):
-    return Store("array", CELL * cell, data)
+    return store_at("array", CELL * cell, data)
 
 
 def store_root(root):
-    return Store("control", ROOT_AT, root)
+    return store_at("control", ROOT_AT, root)
 
 
 def store_count_zero():
-    return Store("control", COUNT_AT, b"\x00")
+    return store_at("control", COUNT_AT, b"\x00")
 
 
-def stores_of_batch(batch, new_root):
-    """The stores of a batch, a list of (cell number, cell), in order."""
+def stores_of_batch(batch, new_root, section=None):
+    """The stores of a batch, a list of (cell number, cell), in order. The
+    commit of a turn's batch also sets the section of the turn."""
     if not batch:
         return []
-    made = [Store("control", QUEUE_AT + PLACE * j, number8(cell) + data)
+    made = [store_at("control", QUEUE_AT + PLACE * j, number8(cell) + data)
             for j, (cell, data) in enumerate(batch)]
-    made.append(Store("control", COUNT_AT, bytes([len(batch)]) + new_root))
+    commit = [(COUNT_AT, bytes([len(batch)]) + new_root)]
+    if section is not None:
+        commit.append((TURN_AT, section))
+    made.append(Store("control", tuple(commit)))
     made += [store_cell(cell, data) for cell, data in batch]
     made += [store_root(new_root), store_count_zero()]
     return made
@@ -329,8 +342,9 @@ def stores_of_pending(control):
 
 def apply_stores(stores, array, control):
     memory = {"array": bytearray(array), "control": bytearray(control)}
-    for target, offset, data in stores:
-        memory[target][offset:offset + len(data)] = data
+    for target, pieces in stores:
+        for offset, data in pieces:
+            memory[target][offset:offset + len(data)] = data
     return bytes(memory["array"]), bytes(memory["control"])
 
 
@@ -365,8 +379,27 @@ def control_valid(control):
         return False
     if depth_of(control) not in (1, 2, 3) or control[COUNT_AT] > QUEUE_PLACES:
         return False
-    return all(cell < cells(depth_of(control))
-               for cell, _ in queue_of(control))
+    return turn_valid(control) and all(
+        cell < cells(depth_of(control)) for cell, _ in queue_of(control))
+
+
+def turn_valid(control):
+    """The section of a turn; with count 0 the rest of it is not read."""
+    if control[TURN_AT] == 0:
+        return True
+    return (control[TURN_AT] == 1 and turn_mask(control) != 0
+            and number_at(control, TURN_PAGE_AT) < pages(depth_of(control)))
+
+
+def turn_mask(control):
+    return number_at(control, TURN_MASK_AT)
+
+
+def open_page(control):
+    """The page whose turn is not finished, or None."""
+    if control[TURN_AT] == 0:
+        return None
+    return number_at(control, TURN_PAGE_AT)
 
 
 def opening_refusal(keys, module):
@@ -394,9 +427,34 @@ def line_refusal(keys, line, buffer, module):
         return refused(7)
     if not 0 <= line < lines(h):
         return refused(6)
+    refusal = state_refusal(module)
+    if refusal is not None:
+        return refusal
+    if line // 64 == open_page(module.control):
+        return refused(30)
+    return None
+
+
+def turn_refusal(keys, page, module):
+    """All checks of a turn that come before the path is loaded."""
+    refusal = opening_refusal(keys, module)
+    if refusal is not None:
+        return refusal
+    if not 0 <= page < pages(depth_of(module.control)):
+        return refused(6)
+    refusal = state_refusal(module)
+    if refusal is not None:
+        return refusal
+    if open_page(module.control) not in (None, page):
+        return refused(30)
+    return None
+
+
+def state_refusal(module):
     if module.control[COUNT_AT] != 0:
         return refused(22)
-    if not cache_formed(h, slots_of_cache(module.cache)):
+    if not cache_formed(depth_of(module.control),
+                        slots_of_cache(module.cache)):
         return refused(23)
     return None
 
@@ -490,11 +548,9 @@ def read_call(keys, line, allowance, output, module):
     major, minor = major_of(block), minors_of(block)[place]
     text = bytes(CONTENT)
     if minor != 0:
-        cell = cell_at(module.array, line)
-        content, side = cell[:CONTENT], cell[CONTENT:]
-        if side != data_side(keys, content, line, major, minor):
+        text = text_at(keys, module.array, line, major, minor)
+        if text is None:
             return refused(25, line), module, output
-        text = xor(content, pad(keys, line, major, minor))
     stores = stores_of_batch(batch, root_of(module.control))
     ended, module = make_stores(stores, allowance, module,
                                 cache_of_slots(found))
@@ -502,6 +558,36 @@ def read_call(keys, line, allowance, output, module):
         return ended, module, output
     answer = done(len(stores)) if minor != 0 else blank(len(stores))
     return answer, module, text
+
+
+def text_at(keys, array, line, major, minor):
+    """The text of a line, or None if its cell's phase or tag differs."""
+    cell = cell_at(array, line)
+    content, side = cell[:CONTENT], cell[CONTENT:]
+    if side != data_side(keys, content, line, major, minor):
+        return None
+    return xor(content, pad(keys, line, major, minor))
+
+
+def data_cell(keys, text, line, major, minor):
+    content = xor(text, pad(keys, line, major, minor))
+    return content + data_side(keys, content, line, major, minor)
+
+
+def renew_path(keys, h, page, found, content):
+    """Put a new counter block and the nodes over it into their slots, dirty;
+    gives the new root."""
+    found[slot_of(0, page)] = Slot(page + 1, 1, content)
+    tag = node_tag(keys, content, 0, page)
+    for level in range(1, h + 1):
+        index = page // 8**level
+        child = page // 8**(level - 1) % 8
+        slot = slot_of(level, index)
+        node = found[slot].content
+        node = node[:8 * child] + tag + node[8 * child + 8:]
+        found[slot] = Slot(index + 1, 1, node)
+        tag = node_tag(keys, node, level, index)
+    return tag
 
 
 def write_call(keys, line, text, allowance, module):
@@ -520,27 +606,81 @@ def write_call(keys, line, text, allowance, module):
     minors[place] += 1
     minor = minors[place]
     content = counter_block(major, minors)
-    found[slot_of(0, page)] = Slot(page + 1, 1, content)
-    tag = node_tag(keys, content, 0, page)
-    for level in range(1, h + 1):
-        index = page // 8**level
-        child = page // 8**(level - 1) % 8
-        slot = slot_of(level, index)
-        node = found[slot].content
-        node = node[:8 * child] + tag + node[8 * child + 8:]
-        found[slot] = Slot(index + 1, 1, node)
-        tag = node_tag(keys, node, level, index)
+    root = renew_path(keys, h, page, found, content)
     if minor % STOP_LOSS == 0:
         batch.append((node_cell(h, 0, page), content + bytes(SIDE)))
         found[slot_of(0, page)] = Slot(page + 1, 0, content)
-    sealed = xor(text, pad(keys, line, major, minor))
-    batch.append((line, sealed + data_side(keys, sealed, line, major, minor)))
-    stores = stores_of_batch(batch, tag)
+    batch.append((line, data_cell(keys, text, line, major, minor)))
+    stores = stores_of_batch(batch, root)
     ended, module = make_stores(stores, allowance, module,
                                 cache_of_slots(found))
     if ended is not None:
         return ended, module
     return done(len(stores)), module
+
+
+def turn_call(keys, page, allowance, module):
+    refusal, stores, cache = turn_stores(keys, page, module)
+    if refusal is not None:
+        return refusal, module
+    ended, module = make_stores(stores, allowance, module, cache)
+    if ended is not None:
+        return ended, module
+    return done(len(stores)), module
+
+
+def turn_stores(keys, page, module):
+    """All stores of a turn; gives (refusal or None, stores, cache)."""
+    refusal = turn_refusal(keys, page, module)
+    if refusal is not None:
+        return refusal, None, None
+    h = depth_of(module.control)
+    refusal, found, path = load_path(keys, page, module)
+    if refusal is not None:
+        return refusal, None, None
+    block = found[slot_of(0, page)].content
+    major, minors = major_of(block), minors_of(block)
+    if major == MAJOR_MAX:
+        return refused(31), None, None
+    places = places_to_turn(module.control, minors)
+    turned = []
+    for place in places:
+        line, minor = 64 * page + place, minors[place]
+        text = None
+        if minor != 0:
+            text = text_at(keys, module.array, line, major, minor)
+        if text is None:
+            return refused(25, line), None, None
+        turned.append((line, data_cell(keys, text, line, major + 1, 1)))
+    new_block = counter_block(major + 1, [min(minor, 1) for minor in minors])
+    new_root = renew_path(keys, h, page, found, new_block)
+    found[slot_of(0, page)] = Slot(page + 1, 0, new_block)
+
+    # A batch for each line, or one without a line.
+    batches = [[cell] for cell in turned] or [[]]
+    if open_page(module.control) is None and len(places) > 1:
+        batches[0].insert(0, (node_cell(h, 0, page), block + bytes(SIDE)))
+    batches[-1].insert(0, (node_cell(h, 0, page), new_block + bytes(SIDE)))
+    batches[0] = path + batches[0]
+    stores = []
+    for number, batch in enumerate(batches[:-1], 1):
+        stores += stores_of_batch(batch, root_of(module.control),
+                                  open_section(page, places[number:]))
+    stores += stores_of_batch(batches[-1], new_root, bytes(17))
+    return None, stores, cache_of_slots(found)
+
+
+def places_to_turn(control, minors):
+    """Of an open page the mask's places, else those of the written lines."""
+    if open_page(control) is None:
+        return [place for place in range(64) if minors[place] != 0]
+    mask = turn_mask(control)
+    return [place for place in range(64) if mask >> place & 1]
+
+
+def open_section(page, places):
+    mask = sum(1 << place for place in places)
+    return b"\x01" + number8(page) + number8(mask)
 
 
 def recover_call(keys, allowance, module):
@@ -558,7 +698,8 @@ def recover_call(keys, allowance, module):
     fault = owners_fault(h, owners)
     if fault is not None:
         return refused(27, fault, stores=len(stores)), module
-    rebuilt = rebuilt_slots(keys, h, module.array, owners)
+    rebuilt = rebuilt_slots(keys, h, module.array, owners,
+                            open_page(module.control))
     if rebuilt is None:
         return refused(28, stores=len(stores)), module
     found, total = rebuilt
@@ -569,16 +710,19 @@ def recover_call(keys, allowance, module):
             module._replace(cache=cache_of_slots(found)))
 
 
-def rebuilt_slots(keys, h, array, owners):
+def rebuilt_slots(keys, h, array, owners, opened):
     """The slots of the given owners, each level from the one below, and the
-    sum by which minors were brought forward; None if one cannot be."""
+    sum by which minors were brought forward; None if one cannot be. An open
+    page's block is the array's."""
     found = [EMPTY_SLOT] * slots(h)
     total = 0
     for slot, owner in enumerate(owners):
         if owner == 0:
             continue
         level, index = level_of_slot(slot), owner - 1
-        if level == 0:
+        if level == 0 and index == opened:
+            content = array_node(h, array, 0, index)
+        elif level == 0:
             minors = minors_forward(h, array, index)
             if None in minors:
                 return None
@@ -748,8 +892,8 @@ class History:
     """
 
     # How many parts follow each event's name.
-    SHAPES = {"read": 4, "write": 4, "recover": 2, "list": 1, "format": 2,
-              "power_cut": 1}
+    SHAPES = {"read": 4, "write": 4, "turn": 3, "recover": 2, "list": 1,
+              "format": 2, "power_cut": 1}
 
     def __init__(self, keys, depth):
         allow(depth in (1, 2, 3), "depth")
@@ -759,7 +903,9 @@ class History:
         self.depth = depth
         self.counts = {}
         self.texts = {}
-        self.committed = 0
+        self.turns = {}  # of each page, those that are finished
+        self.open = None  # the page whose turn is not finished
+        self.left = []  # its places still to turn
         self.answers = []
         self.after_cut = False
 
@@ -768,6 +914,7 @@ class History:
         other.__dict__.update(self.__dict__)
         other.counts = dict(self.counts)
         other.texts = dict(self.texts)
+        other.turns = dict(self.turns)
         other.answers = list(self.answers)
         return other
 
@@ -791,6 +938,8 @@ class History:
             claim(answer.kind != "refused", "recovery refused")
         if kind == "write":
             self.note_write(answer, *rest)
+        if kind == "turn" and answer.kind != "refused":
+            self.note_turn(answer, *rest)
         self.module = module
         self.answers.append(answer)
         if answer.kind == "cut":
@@ -815,6 +964,10 @@ class History:
         allow(is_number64(line) and is_number64(allowance), "number")
         return write_call(keys, line, text, allowance, self.module) + (None,)
 
+    def run_turn(self, keys, page, allowance):
+        allow(is_number64(page) and is_number64(allowance), "number")
+        return turn_call(keys, page, allowance, self.module) + (None,)
+
     def run_recover(self, keys, allowance):
         allow(is_number64(allowance), "number")
         return recover_call(keys, allowance, self.module) + (None,)
@@ -838,7 +991,24 @@ class History:
         if commits:
             self.counts[line] = self.counts.get(line, 0) + 1
             self.texts[line] = text
-            self.committed += 1
+
+    def note_turn(self, answer, keys, page, allowance):
+        whole, _ = turn_call(keys, page, UNLIMITED, self.module)
+        places = self.left if self.open == page else [
+            place for place in range(64) if 64 * page + place in self.counts]
+        batches = turn_batches(len(places), whole.stores)
+        committed = batches_committed(batches, answer.stores)
+        if committed == len(batches):
+            self.finish_turn(page)
+        elif committed > 0:
+            self.open, self.left = page, places[committed:]
+
+    def finish_turn(self, page):
+        self.open, self.left = None, []
+        self.turns[page] = self.turns.get(page, 0) + 1
+        for line in range(64 * page, 64 * page + 64):
+            if line in self.counts:
+                self.counts[line] = 1
 
     def lines_to_read(self):
         """Every written line and some that may be unwritten."""
@@ -864,8 +1034,8 @@ class History:
                   "page %d too far ahead of the array" % page)
             counter_sum += sum(now)
             behind += sum(now) - sum(stored)
-            blocks.append(fresh_block(counts))
-        claim(counter_sum == self.committed, "sum of counters")
+            blocks.append(fresh_block(self.turns.get(page, 0), counts))
+        claim(counter_sum == sum(self.counts.values()), "sum of counters")
         claim(told_sum == behind, "told sum")
         tree = tree_over(keys, h, blocks)
         for level, contents in enumerate(tree):
@@ -874,11 +1044,21 @@ class History:
                       "node %d of level %d" % (index, level))
         claim(root_of(module.control) == node_tag(keys, tree[h][0], h, 0),
               "root")
+        claim(open_page(module.control) == self.open, "open page")
+        if self.open is not None:
+            claim(module.control[TURN_AT:] == open_section(self.open, self.left),
+                  "section of the turn")
         for line in self.lines_to_read() if to_read is None else to_read:
             self.check_read(line)
 
     def check_read(self, line):
-        """A read as the next call gives what the book has."""
+        """A read as the next call gives what the book has, or on an open page
+        its refusal."""
+        if line // 64 == self.open:
+            answer = read_call(self.keys, line, 0, bytes(CONTENT), self.module)
+            claim(answer == (refused(30), self.module, bytes(CONTENT)),
+                  "read of line %d on the open page" % line)
+            return
         written = line in self.texts
         kind = "done" if written else "blank"
         text = self.texts.get(line, bytes(CONTENT))
@@ -893,8 +1073,27 @@ class History:
 
 
 @lru_cache(maxsize=1 << 14)
-def fresh_block(counts):
-    return counter_block(0, counts)
+def fresh_block(turns, counts):
+    return counter_block(turns, counts)
+
+
+def turn_batches(lines_left, whole):
+    """The cells of each batch of a turn, from how many lines it has to turn
+    and how many stores it makes in all."""
+    later = [1] * (lines_left - 2) + [2] if lines_left > 1 else []
+    first = whole - sum(2 * m + 3 for m in later)
+    return [(first - 3) // 2] + later
+
+
+def batches_committed(batches, stores):
+    """How many batches of so many cells are committed by so many stores."""
+    committed = 0
+    for m in batches:
+        if stores <= m:
+            break
+        committed += 1
+        stores -= 2 * m + 3
+    return committed
 
 
 def run_history(keys, depth, events):

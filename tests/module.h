@@ -14,11 +14,12 @@ typedef struct {
     __typeof__(nv_format) *format;
     __typeof__(nv_read) *read;
     __typeof__(nv_write) *write;
+    __typeof__(nv_turn) *turn;
     __typeof__(nv_recover) *recover;
     __typeof__(nv_dirty_pages) *dirty_pages;
 } calls;
 
-#define CALLS_OF(prefix) { prefix##format, prefix##read, prefix##write, prefix##recover, prefix##dirty_pages }
+#define CALLS_OF(prefix) { prefix##format, prefix##read, prefix##write, prefix##turn, prefix##recover, prefix##dirty_pages }
 
 typedef struct {
     const calls *by;
@@ -88,6 +89,12 @@ static inline uint32_t call_write(const module *m, uint64_t line, uint64_t allow
                         m->text, NV_TEXT_LENGTH, allowance, m->numbers, NV_NUMBERS_LENGTH);
 }
 
+static inline uint32_t call_turn(const module *m, uint64_t page, uint64_t allowance)
+{
+    return m->by->turn(keys, sizeof keys, m->control, NV_CONTROL_LENGTH, m->array, m->array_len, m->cache, m->cache_len, page,
+                       allowance, m->numbers, NV_NUMBERS_LENGTH);
+}
+
 static inline uint32_t call_recover(const module *m, uint64_t allowance)
 {
     return m->by->recover(keys, sizeof keys, m->control, NV_CONTROL_LENGTH, m->array, m->array_len, m->cache, m->cache_len,
@@ -104,13 +111,15 @@ static inline uint32_t call_dirty_pages(const module *m)
 
 enum scenario {
     CACHED_READ, BLANK_READ, FIRST_READ, EVICTING_READ, CACHED_WRITE, STOP_LOSS_WRITE, EVICTING_WRITE, FULL_WRITE,
-    IDLE_RECOVERY, SMALL_RECOVERY, FULL_RECOVERY, FORMAT, DIRTY_PAGES, SCENARIOS,
+    SMALL_TURN, FULL_TURN, IDLE_RECOVERY, SMALL_RECOVERY, FULL_RECOVERY, FORMAT, DIRTY_PAGES, BENCH_ROWS,
+    EVICTING_TURN = BENCH_ROWS, RESUMED_TURN, TURN_RECOVERY, SCENARIOS,
 };
 
 static const char *const scenario_names[SCENARIOS] = {
     "read of a cached line", "blank read", "blank read, empty cache", "read with eviction", "write to a cached line",
-    "stop-loss write", "write with eviction", "write, full batch", "recovery, full shadow", "recovery, one pending",
-    "recovery, full batch", "format", "list of dirty pages",
+    "stop-loss write", "write with eviction", "write, full batch", "turn of two lines", "turn of a full page",
+    "recovery, full shadow", "recovery, one pending", "recovery, full batch", "format", "list of dirty pages",
+    "turn with eviction", "turn resumed", "recovery, open page",
 };
 
 enum { NEAR = 5 };
@@ -155,6 +164,33 @@ static inline uint64_t scenario_line(enum scenario s, unsigned depth)
     return s == EVICTING_READ || s == EVICTING_WRITE || s == FULL_WRITE || s == FULL_RECOVERY ? far_line(depth) : NEAR;
 }
 
+// The page that a scenario's call turns.
+static inline uint64_t scenario_page(enum scenario s, unsigned depth)
+{
+    return (s == EVICTING_TURN ? far_line(depth) : NEAR) / 64;
+}
+
+// Writes the lines of a page that is to be turned; for a turn that is resumed, or recovered from, power fails after the
+// commit of its first batch.
+static inline void prepare_turn(const module *m, enum scenario s)
+{
+    uint64_t first = s == FULL_TURN ? 0 : s == EVICTING_TURN ? far_line(m->depth) : NEAR;
+    uint64_t lines = s == FULL_TURN ? 64 : s == SMALL_TURN ? 2 : 3;
+    for (uint64_t i = 0; i < lines; i++)
+        put_lines(m, first + i, 1 + (int)i % 3);
+    if (s == EVICTING_TURN)
+        put_lines(m, NEAR, 1);
+    if (s == RESUMED_TURN || s == TURN_RECOVERY)
+        need(call_turn(m, scenario_page(s, m->depth), 3) == NV_CUT && m->control[15] == 2 && m->control[NV_TURN_AT] == 1);
+    if (s == RESUMED_TURN)
+        need(call_recover(m, UNLIMITED) == NV_DONE);
+}
+
+static inline int turns(enum scenario s)
+{
+    return s == SMALL_TURN || s == FULL_TURN || s == EVICTING_TURN || s == RESUMED_TURN;
+}
+
 static inline void prepare(const module *m, enum scenario s)
 {
     uint64_t far = far_line(m->depth);
@@ -175,6 +211,8 @@ static inline void prepare(const module *m, enum scenario s)
     }
     if (s == IDLE_RECOVERY)
         fill_slots(m);
+    if (turns(s) || s == TURN_RECOVERY)
+        prepare_turn(m, s);
     memset(m->text, 0xe7, NV_TEXT_LENGTH);
     if (s == SMALL_RECOVERY) // cut after the commit of a batch of one cell
         need(call_write(m, NEAR, 2) == NV_CUT && m->control[15] == 1);
@@ -184,7 +222,7 @@ static inline void prepare(const module *m, enum scenario s)
 
 static inline int recovers(enum scenario s)
 {
-    return s == IDLE_RECOVERY || s == SMALL_RECOVERY || s == FULL_RECOVERY;
+    return s == IDLE_RECOVERY || s == SMALL_RECOVERY || s == FULL_RECOVERY || s == TURN_RECOVERY;
 }
 
 static inline int writes(enum scenario s)
@@ -206,9 +244,15 @@ static inline uint32_t run_scenario(const module *m, enum scenario s, uint64_t a
     case EVICTING_WRITE:
     case FULL_WRITE:
         return call_write(m, line, allowance);
+    case SMALL_TURN:
+    case FULL_TURN:
+    case EVICTING_TURN:
+    case RESUMED_TURN:
+        return call_turn(m, scenario_page(s, m->depth), allowance);
     case IDLE_RECOVERY:
     case SMALL_RECOVERY:
     case FULL_RECOVERY:
+    case TURN_RECOVERY:
         return call_recover(m, allowance);
     case FORMAT:
         return call_format(m);

@@ -11,7 +11,7 @@ CALLS(plain_)
 
 enum { KEYS, CONTROL, ARRAY, CACHE, BUFFER, NUMBERS, PARTS };
 enum { HEAP, BEFORE_WALL, AFTER_WALL, PLACES };
-enum { READ, WRITE, RECOVER, LIST, FORMATS, CALLS_MADE };
+enum { READ, WRITE, TURN, RECOVER, LIST, FORMATS };
 
 typedef struct {
     uint8_t *at, *base;
@@ -27,7 +27,7 @@ typedef struct {
 static const calls both[2] = { CALLS_OF(nv_), CALLS_OF(plain_) };
 static const int rounds[4] = { 0, 60000, 10000, 1000 };
 static uint64_t state;
-static long codes[130];
+static long codes[140];
 static size_t page;
 
 static uint64_t draw(uint64_t below) // splitmix64
@@ -77,6 +77,8 @@ static uint32_t make(const calls *by, const job *j, const slice *s)
         return by->read(SLICE(KEYS), SLICE(CONTROL), SLICE(ARRAY), SLICE(CACHE), j->line, SLICE(BUFFER), j->allowance, SLICE(NUMBERS));
     case WRITE:
         return by->write(SLICE(KEYS), SLICE(CONTROL), SLICE(ARRAY), SLICE(CACHE), j->line, SLICE(BUFFER), j->allowance, SLICE(NUMBERS));
+    case TURN:
+        return by->turn(SLICE(KEYS), SLICE(CONTROL), SLICE(ARRAY), SLICE(CACHE), j->line / 64, j->allowance, SLICE(NUMBERS));
     case RECOVER:
         return by->recover(SLICE(KEYS), SLICE(CONTROL), SLICE(ARRAY), SLICE(CACHE), j->allowance, SLICE(NUMBERS));
     case LIST:
@@ -90,16 +92,19 @@ static uint32_t make(const calls *by, const job *j, const slice *s)
 
 static job draw_job(const module *m)
 {
-    static const size_t lists[] = { NV_TEXT_LENGTH, NV_TEXT_LENGTH, NV_TEXT_LENGTH, NV_LIST_LENGTH, NV_TEXT_LENGTH };
-    static const int kinds[] = { READ, READ, READ, WRITE, WRITE, WRITE, WRITE, RECOVER, RECOVER, LIST };
-    job j = { .call = kinds[draw(10)], .place = (int)draw(PLACES), .depth = draw(4) ? m->depth : draw(6), .line = draw(m->lines) };
+    static const size_t lists[] = { [READ] = NV_TEXT_LENGTH, [WRITE] = NV_TEXT_LENGTH, [TURN] = NV_TEXT_LENGTH,
+                                    [RECOVER] = NV_TEXT_LENGTH, [LIST] = NV_LIST_LENGTH, [FORMATS] = NV_TEXT_LENGTH };
+    static const int kinds[] = { READ, READ, READ, WRITE, WRITE, WRITE, WRITE, TURN, TURN, RECOVER, RECOVER, LIST };
+    job j = { .call = kinds[draw(12)], .place = (int)draw(PLACES), .depth = draw(4) ? m->depth : draw(6), .line = draw(m->lines) };
     if (draw(m->depth == 3 ? 300 : 100) == 0)
         j.call = FORMATS;
     if (draw(2))
         j.line = 64 * draw(12) + draw(2);
     if (draw(50) == 0)
         j.line = draw(2) ? m->lines : UINT64_MAX;
-    j.allowance = draw(2) ? UNLIMITED : draw(20);
+    if (j.call == TURN && m->control[NV_TURN_AT] && draw(4))
+        j.line = 64 * m->control[NV_TURN_PAGE_AT];
+    j.allowance = draw(2) ? UNLIMITED : draw(j.call == TURN ? 80 : 20);
     const size_t right[PARTS] = { sizeof keys, NV_CONTROL_LENGTH, m->array_len, m->cache_len, lists[j.call], NV_NUMBERS_LENGTH };
     memcpy(j.n, right, sizeof right);
     if (draw(8) == 0) {
@@ -112,7 +117,7 @@ static job draw_job(const module *m)
 static void damage(const module *m)
 {
     uint8_t bit = (uint8_t)(1 << draw(8));
-    switch (draw(6)) {
+    switch (draw(8)) {
     case 0:
         m->control[draw(2) ? draw(24) : draw(NV_CONTROL_LENGTH)] ^= bit;
         break;
@@ -128,6 +133,15 @@ static void damage(const module *m)
         break;
     case 4: // minors that cannot be raised
         memset(m->cache + 73 * draw(4) + 9 + 8, 0xff, 56);
+        break;
+    case 5: // an open page, with any mask
+        memset(m->control + NV_TURN_AT, 0, 17);
+        m->control[NV_TURN_AT] = draw(20) ? 1 : 2;
+        m->control[NV_TURN_PAGE_AT] = (uint8_t)draw(12);
+        m->control[NV_TURN_PAGE_AT + 8 + draw(8)] = bit;
+        break;
+    case 6: // a major that cannot be raised
+        memset(m->cache + 73 * draw(4) + 9, 0xff, 8);
         break;
     default:
         m->array[draw(2) ? draw(m->array_len) : 72 * m->lines + draw(m->array_len - 72 * m->lines)] ^= bit;
@@ -157,7 +171,7 @@ static int agree(const module *m, const job *j, int keep)
             memcpy((uint8_t *)content[part], s[0][part].at, known[part]);
     for (int i = 0; i < 2 * PARTS; i++)
         free(s[i / PARTS][i % PARTS].base);
-    codes[code[0] < 130 ? code[0] : 129]++;
+    codes[code[0] < 140 ? code[0] : 139]++;
     return same;
 }
 
@@ -184,7 +198,8 @@ static int walk(unsigned depth)
 
 int main(int count, char **args)
 {
-    static const int wanted[] = { 0, 1, 2, 101, 102, 103, 104, 105, 106, 107, 121, 122, 123, 124, 125, 126, 127, 128, 129 };
+    static const int wanted[] = { 0, 1, 2, 101, 102, 103, 104, 105, 106, 107, 121, 122, 123, 124, 125, 126, 127, 128, 129, 130,
+                                  131 };
     int passed = 0, failed = 0;
     state = count > 1 ? strtoull(args[1], NULL, 0) : 20261115;
     build_walls(NV_ARRAY_LENGTH_3 + 1);

@@ -9,6 +9,7 @@ KEYS = bytes(range(48))
 OTHER_PAD = bytes([255]) + KEYS[1:]
 OTHER_TAG = KEYS[:47] + bytes([255])
 ALLOWANCES = tuple(range(20)) + (20, 2**32 - 1, 2**32, 2**63, UNLIMITED)
+MOST_STORES = 336  # of a turn
 DEPTHS = (1, 2, 3)
 
 # The paper's bench listing.
@@ -57,6 +58,21 @@ def written(module, *lines):
     return module
 
 
+def opened(module, page, mask):
+    """The module with a page open and these of its lines still to turn; the rest is as it was."""
+    return module._replace(control=patched(module.control, model.TURN_AT, b"\x01" + number8(page) + number8(mask)))
+
+
+def block_stored(depth, module, page):
+    """The module with a page's counter block in the array as the cache has it."""
+    block = model.node_of(depth, module.array, model.slots_of_cache(module.cache), 0, page)
+    return module._replace(array=cell_patched(module.array, model.node_cell(depth, 0, page), 0, block))
+
+
+def drawn_mask(rng):
+    return rng.choice([1, 2**63, 2**64 - 1, 1 << rng.randrange(64), rng.randrange(1, 2**64)])
+
+
 def near(rng, length):
     """A length that is not the right one, mostly close to it."""
     other = rng.choice([0, 1, length - 1, length + 1, length - 8, length + 8, 2 * length, rng.randrange(2 * length + 1)])
@@ -82,7 +98,7 @@ def with_bit_in_array(rng, depth, module):
 
 
 def with_bad_control(rng, depth, module):
-    at = rng.choice([0, 1, 2, 3, 4, 5, 6, 15, 24 + 80 * rng.randrange(8)])
+    at = rng.choice([0, 1, 2, 3, 4, 5, 6, 15, 24 + 80 * rng.randrange(8), model.TURN_AT])
     control = patched(module.control, at, bytes([rng.randrange(256)]))
     if at == 5 and control[5] in DEPTHS:
         control = patched(control, 5, bytes([rng.choice([0, 4, 255])]))
@@ -107,6 +123,28 @@ def with_pending(rng, depth, module):
         queue += number8(cell) + content
     root = rng.choice([module.control[7:15], rng.randbytes(8)])
     return module._replace(control=patched(module.control, 15, bytes([count]) + root + queue))
+
+
+def with_open_page(rng, depth, module):
+    """A page open, mostly one that a slot has and whose block is in the array; its phases may be anything."""
+    slots = model.slots_of_cache(module.cache)[:4]
+    page = rng.choice([slot.owner - 1 for slot in slots if 0 < slot.owner <= model.pages(depth)] or [0])
+    if rng.randrange(4) == 0:
+        page = rng.randrange(model.pages(depth))
+    if rng.randrange(4):
+        module = block_stored(depth, module, page)
+    if rng.randrange(2):
+        line = 64 * page + rng.randrange(64)
+        module = module._replace(array=cell_patched(module.array, line, CONTENT, bytes([rng.choice([0, 1, 2, 3, 4, 255])])))
+    return opened(module, page, drawn_mask(rng))
+
+
+def with_bad_section(rng, depth, module):
+    """A count, a page or a mask that no turn leaves; with count 0 nothing else is read."""
+    count, page, mask = rng.choice([(2, 0, 1), (255, 0, 1), (1, model.pages(depth), 1), (1, 2**64 - 1, 1), (1, 0, 0),
+                                    (0, 2**64 - 1, 0), (0, 0, rng.randrange(2**64))])
+    section = bytes([count]) + number8(page) + number8(mask)
+    return module._replace(control=patched(module.control, model.TURN_AT, section))
 
 
 def with_bad_owner(rng, depth, module):
@@ -168,8 +206,9 @@ def with_worn_line(rng, depth, module):
     return module._replace(cache=patched(module.cache, SLOT_LENGTH * slot + 9, block))
 
 
-DAMAGES = (with_bit_in_array, with_bad_control, with_other_root, with_pending, with_bad_owner, with_other_dirty,
-           with_other_slots, with_any_cache, with_bad_shadow, with_other_phase, with_worn_line)
+DAMAGES = (with_bit_in_array, with_bad_control, with_other_root, with_pending, with_open_page, with_bad_section,
+           with_bad_owner, with_other_dirty, with_other_slots, with_any_cache, with_bad_shadow, with_other_phase,
+           with_worn_line)
 
 
 def damaged(rng, depth, module):
@@ -182,7 +221,7 @@ def damaged(rng, depth, module):
 
 def drawn_block(rng):
     """A counter block with any major and minors."""
-    major = rng.choice([0, 0, 1, 2**32, 2**64 - 1, rng.randrange(2**64)])
+    major = rng.choice([0, 0, 1, 2**32, 2**64 - 2, 2**64 - 1, rng.randrange(2**64)])
     style = rng.randrange(3)
     minors = [0 if style == 0 and rng.randrange(4) else rng.choice([1, 2, 3, 4, 7, 125, 126, 127, rng.randrange(128)])
               for _ in range(64)]
@@ -190,9 +229,12 @@ def drawn_block(rng):
 
 
 def arbitrary(rng, depth, sealed=40):
-    """A module whose tree is sound over any counter blocks, with so many readable lines; the rest is any bytes."""
+    """A module whose tree is sound over any counter blocks, with so many readable lines, and two of the first pages
+    readable whole; the rest is any bytes."""
     array = bytearray(rng.randbytes(model.array_length(depth)))
-    blocks = [drawn_block(rng) if rng.randrange(3) == 0 else bytes(CONTENT) for _ in range(model.pages(depth))]
+    whole = rng.sample(range(8), 2)
+    blocks = [drawn_block(rng) if page in whole or rng.randrange(3) == 0 else bytes(CONTENT)
+              for page in range(model.pages(depth))]
     tree = model.tree_over(KEYS, depth, blocks)
     for level, contents in enumerate(tree):
         for index, content in enumerate(contents):
@@ -205,16 +247,18 @@ def arbitrary(rng, depth, sealed=40):
     for line in range(model.lines(depth)):
         minor = model.minors_of(blocks[line // 64])[line % 64]
         array[CELL * line + CONTENT] = minor % 4
-    for _ in range(sealed):
-        line = rng.randrange(model.lines(depth))
+    readable = [64 * page + place for page in whole for place in range(64)]
+    readable += [rng.randrange(model.lines(depth)) for _ in range(sealed)]
+    for line in readable:
         block = blocks[line // 64]
         minor = model.minors_of(block)[line % 64]
         content = bytes(array[CELL * line:CELL * line + CONTENT])
         side = model.data_side(KEYS, content, line, model.major_of(block), minor)
         array[CELL * line + CONTENT:CELL * line + CELL] = side
     root = model.node_tag(KEYS, tree[depth][0], depth, 0)
-    control = model.MARK + bytes([1, depth, 1]) + root + bytes([0]) + rng.randbytes(648)
-    return Module(bytes(array), control, bytes(model.cache_length(depth)))
+    control = model.MARK + bytes([1, depth, 1]) + root + bytes([0]) + rng.randbytes(648) + bytes([0]) + rng.randbytes(16)
+    module = Module(bytes(array), control, bytes(model.cache_length(depth)))
+    return module if rng.randrange(3) else opened(module, rng.choice([0] + whole), drawn_mask(rng))
 
 
 # ---- Calls ----
@@ -225,9 +269,20 @@ def drawn_line(rng, depth, hot):
                        rng.choice([0, 63, 64, last - 1])])
 
 
+def drawn_turn(rng, depth, module, hot):
+    """The page of a turn, mostly the open one if there is one, and its allowance."""
+    page = drawn_line(rng, depth, hot) // 64
+    if len(module.control) == model.CONTROL_LENGTH and module.control[model.TURN_AT] and rng.randrange(4):
+        page = model.number_at(module.control, model.TURN_PAGE_AT)
+    if rng.randrange(40) == 0:
+        page = rng.choice([model.pages(depth), 2**32, 2**63, 2**64 - 1])
+    allowance = rng.choice([UNLIMITED, rng.choice(ALLOWANCES), rng.choice(ALLOWANCES), rng.randrange(MOST_STORES)])
+    return page, allowance
+
+
 def drawn_call(rng, depth, module, hot):
     """A call with right lengths: (name, arguments)."""
-    name = rng.choice(("read",) * 6 + ("write",) * 8 + ("recover",) * 4 + ("dirty_pages",))
+    name = rng.choice(("read",) * 6 + ("write",) * 8 + ("turn",) * 2 + ("recover",) * 4 + ("dirty_pages",))
     keys = KEYS if rng.randrange(60) else rng.choice([OTHER_PAD, OTHER_TAG])
     allowance = UNLIMITED if rng.randrange(2) else rng.choice(ALLOWANCES)
     line = drawn_line(rng, depth, hot)
@@ -239,6 +294,8 @@ def drawn_call(rng, depth, module, hot):
         return name, (keys, control, array, cache, line, rng.randbytes(64), allowance, numbers)
     if name == "write":
         return name, (keys, control, array, cache, line, rng.randbytes(64), allowance, numbers)
+    if name == "turn":
+        return name, (keys, control, array, cache, *drawn_turn(rng, depth, module, hot), numbers)
     if name == "recover":
         return name, (keys, control, array, cache, allowance, numbers)
     return name, (control, cache, rng.randbytes(32), numbers)
@@ -263,12 +320,12 @@ def misshapen(rng, arguments):
 # ---- Settled states: a sound tree in the array, nothing cached ----
 
 @lru_cache(maxsize=64)
-def settled(depth, lines=()):
-    """The module with a zero cache in whose array each (line, minor, text) stands written."""
+def settled(depth, lines=(), major=0):
+    """The module with a zero cache in whose array each (line, minor, text) stands written, all pages at this major."""
     counts = [[0] * 64 for _ in range(model.pages(depth))]
     for line, minor, _ in lines:
         counts[line // 64][line % 64] = minor
-    blocks = [model.counter_block(0, minors) for minors in counts]
+    blocks = [model.counter_block(major, minors) for minors in counts]
     tree = model.tree_over(KEYS, depth, blocks)
     array = bytearray(model.array_length(depth))
     for level, contents in enumerate(tree):
@@ -276,7 +333,6 @@ def settled(depth, lines=()):
             at = CELL * model.node_cell(depth, level, index)
             array[at:at + CONTENT] = content
     for line, minor, text in lines:
-        content = model.xor(text, model.pad(KEYS, line, 0, minor))
-        array[CELL * line:CELL * line + CELL] = content + model.data_side(KEYS, content, line, 0, minor)
+        array[CELL * line:CELL * line + CELL] = model.data_cell(KEYS, text, line, major, minor)
     root = model.node_tag(KEYS, tree[depth][0], depth, 0)
     return formatted(depth)._replace(array=bytes(array), control=patched(formatted(depth).control, 7, root))

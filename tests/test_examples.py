@@ -56,9 +56,9 @@ def module_text(module):
 # ---- the runs: small, since a run that fails takes twice as long as one that does not
 
 def before_eviction():
-    """Line 256 is at minor 3, and its block's slot has page 0, dirty."""
+    """Line 256 is at minor 3, and its block's slot has page 0, dirty, with three written lines."""
     module = formatted(1)
-    for line, byte in (256, 1), (256, 2), (256, 3), (0, 4):
+    for line, byte in (256, 1), (256, 2), (256, 3), (0, 4), (1, 6), (2, 7):
         module = model.write_call(KEYS, line, bytes([byte]) * 64, UNLIMITED, module)[1]
     return module
 
@@ -78,13 +78,78 @@ def written(start):
 def rebuilt(start):
     """What a recovery after a power failure rebuilds: counter blocks, then nodes."""
     answer, module = model.recover_call(KEYS, 0, start._replace(cache=bytes(len(start.cache))))
-    assert answer == model.Answer("done", 0, 0, 1, 0)
+    assert answer == model.Answer("done", 0, 0, 3, 0)
     owners = [slot.owner for slot in model.slots_of_cache(module.cache)]
     blocks = literal(module.cache[:4 * 73] + bytes(len(module.cache) - 4 * 73))
-    return theorem("blocks", "rebuildBlocks 1 (start .array) 0 (%s) (emptyCache 1) 0\n    ≡ rebuilt (%s) 1" % (
+    return theorem("blocks", "rebuildBlocks 1 (start .control) (start .array) 0 (%s) (emptyCache 1) 0\n    ≡ rebuilt (%s) 3" % (
         octets(owners[:4]), blocks), " start") + theorem(
         "nodes", "rebuildNodes 1 (upTo 48 0) (start .array) 4 (%s)\n    (%s)\n    ≡ %s" % (
             octets(owners[4:]), blocks, literal(module.cache)), " start")
+
+
+def batches(stores):
+    """The batches of a turn's stores: cells, new root and section of each."""
+    found, cells = [], []
+    for target, pieces in stores:
+        at, data = pieces[0]
+        if target == "control" and at >= model.QUEUE_AT:
+            cells.append((model.number_at(data, 0), data[8:]))
+        elif len(pieces) == 2:
+            found.append((cells, model.number_at(data, 1), pieces[1][1]))
+            cells = []
+    return found
+
+
+def opened(start):
+    """The control record with a turn of page 0 that has its lines 1 and 2 left."""
+    section = bytes([1]) + model.number8(0) + model.number8(6)
+    return start.control[:664] + section
+
+
+def turned(start):
+    """The batches of a turn of page 0, and of a resumed one; the last batch whole."""
+    def shape(control):
+        refusal, stores, _ = model.turn_stores(KEYS, 0, start._replace(control=control))
+        assert refusal is None
+        return batches(stores)
+
+    def shapes(found):
+        return " ∷ ".join("(%s, %s)" % (octets([number for number, _ in cells]), octets(section)) for cells, _, section in found) + " ∷ []"
+
+    def cell_text(cell):
+        return "record { number = %d; bytes = %s }" % (cell[0], literal(cell[1]))
+
+    whole, resumed = shape(start.control), shape(opened(start))
+    cells, root, section = whole[-1]
+    last = "record { cells = %s ∷ []; root = %d; section = %s } ∷ []" % (
+        " ∷ ".join(cell_text(cell) for cell in cells), root, octets(section))
+    return theorem("front", "turnFront 1 (start .control) (start .cache) 0 []\n    ≡ %s ∷ []" % cell_text(whole[0][0][0]), " start") + theorem("turned", "shapes (turnBatches (upTo 48 0) 0 start (start .cache) [])\n    ≡ %s" % shapes(whole), " shapes start") + theorem(
+        "resumed", "shapes (turnBatches (upTo 48 0) 0 (record { array = start .array; control = openControl; cache = start .cache }) (start .cache) [])"
+        "\n    ≡ %s" % shapes(resumed), " shapes start openControl") + theorem(
+        "last", "batchesOf 1 (upTo 48 0) (start .array) (start .cache) 0 0 [] (2 ∷ [])\n    ≡ %s" % last, " start")
+
+
+def rebuilt_open(start):
+    """Recovery takes the block of an open page from the array."""
+    answer, module = model.recover_call(KEYS, 0, start._replace(control=opened(start)))
+    assert answer.number == 29
+    block = model.array_node(1, start.array, 0, 0)
+    slot = model.number8(1) + bytes([1]) + block
+    return theorem("open-blocks", "rebuildBlocks 1 openControl (start .array) 0 (1 ∷ 0 ∷ 0 ∷ 0 ∷ []) (emptyCache 1) 0\n    ≡ rebuilt (%s) 0" % (
+        literal(slot + bytes(len(start.cache) - 73))), " start openControl")
+
+
+def judged(start):
+    """A cache that is not formed is judged before a page that is open."""
+    module = start._replace(control=opened(start), cache=bytes([9]) + start.cache[1:])
+    assert model.read_call(KEYS, 0, 0, bytes(64), module)[0].number == 23
+    assert model.turn_call(KEYS, 1, 0, module)[0].number == 23
+    assert model.turn_call(KEYS, 1, 0, start._replace(control=opened(start)))[0].number == 30
+    torn = "(record { array = start .array; control = openControl; cache = set (start .cache) 0 9 })"
+    return "".join(theorem(name, "%s ≡ %d" % (call, number), " start openControl") for name, call, number in (
+        ("read-judged", "accessRefusal (upTo 48 0) 0 (replicate 64 0) %s" % torn, 23),
+        ("turn-judged", "turnRefusal (upTo 48 0) 1 %s" % torn, 23),
+        ("other-judged", "turnRefusal (upTo 48 0) 1 (record { array = start .array; control = openControl; cache = start .cache })", 30)))
 
 
 def listed(start):
@@ -97,18 +162,20 @@ def listed(start):
         literal(cache), octets(output)), " start")
 
 
-HEAD = """-- Written by tests/test_examples.py: a write with an eviction and a stop-loss store, what a recovery rebuilds, and a list of
--- dirty pages. Assumes nothing.
+HEAD = """-- Written by tests/test_examples.py: a write with an eviction and a stop-loss store, the batches of a turn and of a resumed one, what
+-- a recovery rebuilds, where a page is open too, refusals in sequence, and a list of dirty pages. Assumes nothing.
 use mathlib.Core.Path.{_≡_, refl}
-use mathlib.Core.List.{List, [], _∷_}
+use mathlib.Core.List.{List, [], _∷_, map}
 use Prim.Native.Nat.{ℕ, _*_}
-use lib.ListN.{replicate}
+use lib.ListN.{replicate, set}
 use Rattle.words.specs.Bytes.{part}
 use Rattle.answer.specs.declared.Answer.{Answer}
 use Rattle.answer.specs.declared.Answer.the-variants.{Done}
 use Rattle.cache.specs.Cache.{emptyCache}
-use Rattle.calls.specs.Call.{Module, Called}
+use Rattle.control.specs.Control.{Cell}
+use Rattle.calls.specs.Call.{Module, Called, accessRefusal}
 use Rattle.calls.specs.Write.{write}
+use Rattle.calls.specs.Turn.{Batch, turnRefusal, turnFront, turnBatches, batchesOf}
 use Rattle.calls.specs.Recovery.{rebuilt, rebuildBlocks, rebuildNodes}
 use Rattle.calls.specs.DirtyPages.{dirtyPages}
 use Rattle.calls.proofs.Run.{run}
@@ -123,8 +190,16 @@ record Seen : Type 0 where
 seen : ℕ → Called → Seen
 seen n c = record { answer = c .answer; cache = c .after .cache; cell = part (c .after .array) (72 * n) 72 }
 
+-- the cell numbers of each batch, and its section
+shapes : List Batch → List (List ℕ × List ℕ)
+shapes bs = map (λ (b : Batch). (map (λ (c : Cell). c .number) (b .cells), b .section)) bs
+
 start : Module
 start =
+    %s
+
+openControl : List ℕ
+openControl =
     %s
 """
 
@@ -139,7 +214,8 @@ def main(words):
         print(__doc__)
         return 2
     start = before_eviction()
-    text = HEAD % module_text(start) + written(start) + rebuilt(start) + listed(start)
+    text = HEAD % (module_text(start), literal(opened(start)))
+    text += written(start) + turned(start) + rebuilt(start) + rebuilt_open(start) + judged(start) + listed(start)
     path = os.path.join(TOP, FILE)
     if words:
         with open(path, "w", encoding="utf-8") as f:

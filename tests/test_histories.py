@@ -1,6 +1,6 @@
 """Histories through the library against the paper's history rule. The book is kept here, from the list alone.
 
-Random histories have any lines, texts, allowances, refused calls and power cuts; small lists are gone through whole,
+Random histories have any lines, pages, texts, allowances, refused calls and power cuts; small lists are gone through whole,
 with a cut after every store of every call, in recoveries too, and other caches after a cut. After each done recovery
 every clause of the rule is checked. An argument is another seed.
 """
@@ -10,17 +10,19 @@ import sys
 
 import model
 import states
-from book import Book, commits, faults_after_recovery
-from library import BLANK, CUT, DONE, Library, NUMBERS, REFUSED, Session, Tally, in_parallel
+from book import Book, commits, faults_after_recovery, wanted_of_read
+from library import CUT, DONE, Library, NUMBERS, REFUSED, Session, Tally, in_parallel
 from model import UNLIMITED
 from states import KEYS, text_of
 
 RANDOM = {1: (300, 120), 2: (60, 90), 3: (12, 60)}  # histories and their lengths
 MOST_STORES = 19
-# Small lists: their length, the events, and how many cuts recovery may meet in a row.
+# Small lists: lines written before, their length, the events, and how many cuts recovery may meet in a row.
 SMALL = (
-    (2, (("write", 0), ("write", 1), ("write", 256), ("write", 320), ("read", 0), ("read", 257)), 2),
-    (3, (("write", 0), ("write", 256), ("read", 64)), 1),
+    ((), 2, (("write", 0), ("write", 1), ("write", 256), ("write", 320), ("read", 0), ("read", 257)), 2),
+    ((), 3, (("write", 0), ("write", 256), ("read", 64)), 1),
+    ((0, 1, 256), 2, (("turn", 0), ("turn", 4), ("turn", 1), ("write", 0), ("write", 257), ("read", 1)), 1),
+    ((0, 1), 3, (("turn", 0), ("write", 256)), 0),
 )
 
 
@@ -48,10 +50,10 @@ class Rule:
 
     def write(self, line, text, allowance):
         whole = self.stores_of_whole(line, text) if allowance < MOST_STORES else 0
-        worn = self.book.counts.get(line) == 127
+        refused = REFUSED + 30 if self.book.open_page == line // 64 else 126 if self.book.counts.get(line) == 127 else None
         code, stores, _, _ = self.session.write(line, text, allowance)
         self.calls += 1
-        self.tally.check(code == 126 if worn else code in (DONE, CUT), "a write of line %d gave %d" % (line, code))
+        self.tally.check(code == refused if refused else code in (DONE, CUT), "a write of line %d gave %d" % (line, code))
         if code == DONE or code == CUT and commits(stores, whole):
             self.book.commit(line, text)
         self.cuts += code == CUT
@@ -61,8 +63,23 @@ class Rule:
             self.tally.check(stores == whole <= allowance, "a write of %d stores done under %d" % (whole, allowance))
         return code
 
+    def turn(self, page, allowance):
+        self.scratch.load(self.session.module())
+        whole = self.scratch.turn(page)[1]
+        refused = self.book.open_page not in (None, page)
+        code, stores, first, second = self.session.turn(page, allowance)
+        self.calls += 1
+        self.tally.check(code == REFUSED + 30 if refused else code == (DONE if whole <= allowance else CUT),
+                         "a turn of page %d gave %d" % (page, code))
+        self.tally.check((stores, first, second) == (0 if refused else min(whole, allowance), 0, 0),
+                         "a turn of %d stores made %d under %d" % (whole, stores, allowance))
+        if not refused:
+            self.book.turn(page, stores, whole)
+        self.cuts += code == CUT
+        return code
+
     def read(self, line, allowance):
-        """A read gives the book's text at any time, not only after a recovery."""
+        """A read gives the book's text at any time, not only after a recovery; on an open page it is refused."""
         self.session.put("out", b"\x5a" * 64)
         code, stores, _, _ = self.session.read(line, allowance)
         self.calls += 1
@@ -71,7 +88,7 @@ class Rule:
         if code == CUT:
             self.tally.check(stores == allowance and out == b"\x5a" * 64, "a read of line %d cut" % line)
         elif line < model.lines(self.depth):
-            wanted = (DONE, self.book.texts[line]) if line in self.book.texts else (BLANK, bytes(64))
+            wanted = wanted_of_read(self.book, line, b"\x5a" * 64)
             self.tally.check((code, out) == wanted, "a read of line %d gave %d" % (line, code))
         return code
 
@@ -155,8 +172,10 @@ def random_history(rule, rng, length):
             continue
         line = rng.choice(hot) if rng.randrange(8) else rng.randrange(model.lines(rule.depth))
         style = rng.randrange(10)
-        if style < 6:
+        if style < 5:
             down = rule.write(line, rng.randbytes(64), allowance) == CUT
+        elif style < 6:
+            down = random_turn(rng, rule, line // 64, allowance) == CUT
         elif style < 8:
             down = rule.read(line, allowance) == CUT
         elif style < 9:
@@ -168,6 +187,13 @@ def random_history(rule, rng, length):
     rule.tally.check(rule.session.guards_hold(), "guard bytes")
 
 
+def random_turn(rng, rule, page, allowance):
+    """A turn of the page, or mostly of the open one, if there is one."""
+    if rule.book.open_page is not None and rng.randrange(4):
+        page = rule.book.open_page
+    return rule.turn(page, allowance if allowance == UNLIMITED else rng.randrange(60))
+
+
 def random_part(depth, seed):
     rule = Rule(depth)
     random_history(rule, random.Random(seed), RANDOM[depth][1])
@@ -175,16 +201,26 @@ def random_part(depth, seed):
 
 
 def worn_part(depth):
-    """One line until it is worn, with cuts and recoveries on the way; its writes are then refused, its text stays."""
+    """One line until it is worn, with cuts and recoveries on the way; its writes are then refused, its text stays. Then its
+    page is turned, cut as often as it takes, and the line is written on until it is worn again."""
     rule = Rule(depth)
     line = model.lines(depth) - 5
     rng = random.Random(depth)
-    for turn in range(160):
-        if rule.write(line, rng.randbytes(64), turn % 7 if turn % 3 == 0 else UNLIMITED) == CUT or turn % 10 == 0:
+    for other in (line - 1, line + 3):
+        rule.write(other, rng.randbytes(64), UNLIMITED)
+    for turns in range(3):
+        for step in range(160):
+            if rule.write(line, rng.randbytes(64), step % 7 if step % 3 == 0 else UNLIMITED) == CUT or step % 10 == 0:
+                rule.session.put("cache", any_cache(rng, rule))
+                rule.recover(UNLIMITED)
+        rule.tally.check(rule.book.counts[line] == 127, "the line's count is %d" % rule.book.counts[line])
+        rule.tally.check(rule.book.turns == ({line // 64: turns} if turns else {}), "turns: %s" % rule.book.turns)
+        rule.read(line, UNLIMITED)
+        while rule.turn(line // 64, rng.randrange(12)) == CUT:
             rule.session.put("cache", any_cache(rng, rule))
             rule.recover(UNLIMITED)
-    rule.tally.check(rule.book.counts[line] == 127, "the line is written %d times" % rule.book.counts[line])
-    rule.read(line, UNLIMITED)
+            if rule.book.turns.get(line // 64, 0) > turns:
+                break
     return depth, rule
 
 
@@ -200,6 +236,8 @@ def small_lists(rule, events, alphabet, cuts_left, firsts=None):
 
         def call(allowance):
             rule.go_back(before)
+            if name == "turn":
+                return rule.turn(line, allowance)
             return rule.write(line, text, allowance) if name == "write" else rule.read(line, allowance)
 
         rule.tally.check(call(UNLIMITED) != CUT, "a call cut without a limit")
@@ -228,9 +266,11 @@ def every_recovery(rule, seed, cuts_left):
     rule.tally.check(rule.recover(UNLIMITED, rule.recoveries % 100 == 0) == DONE, "recovery not done")
 
 
-def small_part(events, alphabet, cuts_left, first):
-    """The small lists that start with one event."""
+def small_part(lines, events, alphabet, cuts_left, first):
+    """The small lists that start with one event, after these lines were written."""
     rule = Rule(1)
+    for line in lines:
+        rule.write(line, text_of(line + 100), UNLIMITED)
     small_lists(rule, events, alphabet, cuts_left, (first,))
     rule.tally.check(rule.session.guards_hold(), "guard bytes")
     return 1, rule
@@ -245,7 +285,7 @@ def work(job):
 def main():
     seed = int(sys.argv[1], 0) if len(sys.argv) > 1 else 20261115
     tally = Tally("histories")
-    jobs = [("small", events, alphabet, cuts, first) for events, alphabet, cuts in SMALL for first in alphabet]
+    jobs = [("small", lines, events, alphabet, cuts, first) for lines, events, alphabet, cuts in SMALL for first in alphabet]
     jobs += [("random", depth, 1000 * seed + 100 * depth + i) for depth in states.DEPTHS for i in range(RANDOM[depth][0])]
     jobs += [("worn", depth) for depth in states.DEPTHS]
     sums = {}

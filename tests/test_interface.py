@@ -33,11 +33,16 @@ int main(void)
         || nv_read(keys, sizeof keys, control, sizeof control, array, sizeof array, cache, sizeof cache, 3, out,
                    sizeof out, 0, numbers, sizeof numbers) != NV_DONE
         || memcmp(out, text, sizeof out) != 0
+        || nv_turn(keys, sizeof keys, control, sizeof control, array, sizeof array, cache, sizeof cache, 0, UINT64_MAX,
+                   numbers, sizeof numbers) != NV_DONE
+        || numbers[NV_STORES_AT] != 7 || control[NV_TURN_AT] != 0
+        || nv_turn(keys, sizeof keys, control, sizeof control, array, sizeof array, cache, sizeof cache, NV_LINES_1 / 64,
+                   0, numbers, sizeof numbers) != (uint32_t)NV_REFUSED + NV_BAD_LINE
         || nv_read(keys, sizeof keys, control, sizeof control, array, sizeof array, cache, sizeof cache, NV_LINES_1,
                    out, sizeof out, 0, numbers, sizeof numbers) != (uint32_t)NV_REFUSED + NV_BAD_LINE
         || nv_dirty_pages(control, sizeof control, cache, sizeof cache, list, sizeof list, numbers, sizeof numbers)
             != NV_DONE
-        || list[0] != 0 || list[8] != 0xff;
+        || list[0] != 0xff;
 }
 """
 
@@ -95,8 +100,9 @@ def signatures(tally, text):
 
 def constants(tally, text):
     values = {name: int(value) for name, value in re.findall(r"\b(NV_\w+) = (\d+)", text)}
-    wanted = {"NV_KEYS_LENGTH": 48, "NV_CONTROL_LENGTH": 664, "NV_TEXT_LENGTH": 64, "NV_LIST_LENGTH": 32,
-              "NV_NUMBERS_LENGTH": 24, "NV_DONE": 0, "NV_BLANK": 1, "NV_CUT": 2, "NV_REFUSED": 100}
+    wanted = {"NV_KEYS_LENGTH": 48, "NV_CONTROL_LENGTH": 681, "NV_TEXT_LENGTH": 64, "NV_LIST_LENGTH": 32,
+              "NV_NUMBERS_LENGTH": 24, "NV_DONE": 0, "NV_BLANK": 1, "NV_CUT": 2, "NV_REFUSED": 100, "NV_TURN_AT": 664,
+              "NV_TURN_PAGE_AT": 665}
     for depth in DEPTHS:
         wanted["NV_ARRAY_LENGTH_%d" % depth] = model.array_length(depth)
         wanted["NV_CACHE_LENGTH_%d" % depth] = model.cache_length(depth)
@@ -105,7 +111,7 @@ def constants(tally, text):
         tally.check(values.get(name) == value, "%s is %s" % (name, values.get(name)))
     refusals = text[text.index("// Numbers of refusals."):text.index("// Numbers of an answer")]
     numbers = [int(value) for value in re.findall(r"NV_\w+ = (\d+)", refusals)]
-    tally.check(numbers == list(range(1, 8)) + list(range(21, 30)), "refusal numbers %s" % numbers)
+    tally.check(numbers == list(range(1, 8)) + list(range(21, 32)), "refusal numbers %s" % numbers)
     lines = [line for line in text.split("\n") if re.match(r"\s+NV_\w+ = ", line)]
     tally.check(all("//" in line for line in lines), "a constant without its meaning")
 
@@ -127,7 +133,7 @@ def null_pointers(tally, library):
     content = {"keys": KEYS, "control": module.control, "array": module.array, "cache": module.cache, "out": bytes(64),
                "text": bytes(64), "list": bytes(32), "numbers": b"\xd3" * 24}
     refusals = {"keys": 102, "control": 103, "array": 104, "cache": 105, "out": 107, "text": 107, "list": 107, "numbers": 107}
-    counts = {"depth": 1, "line": 0, "allowance": model.UNLIMITED}
+    counts = {"depth": 1, "line": 0, "page": 0, "allowance": model.UNLIMITED}
     for name in SEQUENCES:
         for absent in SLICES[name]:
             expected = dict(content)

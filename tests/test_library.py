@@ -12,18 +12,19 @@ import states
 from library import Library, SLICES, Tally, in_parallel, numbers_of
 from model import Module
 
-CALLS = {1: 200000, 2: 20000, 3: 4000}
-PARTS = {1: 40, 2: 16, 3: 4}
+CALLS = {1: 150000, 2: 20000, 3: 12000}
+PARTS = {1: 40, 2: 16, 3: 8}
 
 # The refusals of each call, as the paper lists them.
 REFUSALS = {
     "format": (1, 2, 3, 4, 5),
-    "read": (2, 3, 21, 4, 5, 7, 6, 22, 23, 24, 25),
-    "write": (2, 3, 21, 4, 5, 7, 6, 22, 23, 24, 26),
+    "read": (2, 3, 21, 4, 5, 7, 6, 22, 23, 30, 24, 25),
+    "write": (2, 3, 21, 4, 5, 7, 6, 22, 23, 30, 24, 26),
+    "turn": (2, 3, 21, 4, 5, 6, 22, 23, 30, 24, 31, 25),
     "recover": (2, 3, 21, 4, 5, 27, 28, 29),
     "dirty_pages": (3, 21, 5, 7, 23),
 }
-ANSWERS = {"format": (0,), "read": (0, 1, 2), "write": (0, 2), "recover": (0, 2), "dirty_pages": (0,)}
+ANSWERS = {"format": (0,), "read": (0, 1, 2), "write": (0, 2), "turn": (0, 2), "recover": (0, 2), "dirty_pages": (0,)}
 
 
 def module_after(name, slices, module):
@@ -50,6 +51,7 @@ class Walk:
         """A module of this history; now and then a line is nearly worn, or the module is an arbitrary one."""
         self.module = states.formatted(self.depth)
         self.hot = [self.rng.randrange(model.lines(self.depth)) for _ in range(6)]
+        self.hot += [line ^ 1 for line in self.hot[:3]] + [line ^ 9 for line in self.hot[:2]]
         if self.rng.randrange(4) == 0:
             self.module = states.arbitrary(self.rng, self.depth)
             self.hot += [64 * page for page in range(min(8, model.pages(self.depth)))]
@@ -66,7 +68,7 @@ class Walk:
             name, arguments = states.drawn_format(rng, self.depth, module)
         else:
             name, arguments = states.drawn_call(rng, self.depth, module, self.hot)
-        shaped = rng.randrange(10) > 0
+        shaped = rng.randrange(2 if name == "format" else 10) > 0
         if not shaped:
             arguments = states.misshapen(rng, arguments)
         code, slices = self.tally.compare(self.library, name, arguments)
@@ -76,10 +78,10 @@ class Walk:
 
     def note(self, name, arguments, code, slices):
         self.reached[name, 7 if code == 107 and len(arguments[-1]) != 24 else code, len(arguments[-1]) == 24] += 1
-        if name in ("read", "write", "recover"):
+        if name in ("read", "write", "turn", "recover"):
             self.allowances.add((name, arguments[-2]))
             if code < 2:
-                self.stores.add(numbers_of(slices)[0])
+                self.stores.add((name == "turn", numbers_of(slices)[0]))
 
     def next_module(self, name, code, module):
         """The state for the next call: after a cut, or when the module asks for it, mostly a recovered one."""
@@ -96,7 +98,16 @@ class Walk:
         if rng.randrange(300) == 0:
             self.start_anew()
             return self.module
+        if rng.randrange(40) == 0:
+            return self.opened_or_closed(module)
         return module
+
+    def opened_or_closed(self, module):
+        """A page becomes open, its block stored; or none is open any more."""
+        if module.control[model.TURN_AT]:
+            return module._replace(control=states.patched(module.control, model.TURN_AT, bytes(17)))
+        page = self.rng.choice(self.hot) // 64
+        return states.opened(states.block_stored(self.depth, module, page), page, states.drawn_mask(self.rng))
 
 
 def part(job):
@@ -119,12 +130,16 @@ def check_reached(tally, depth, reached, allowances, stores):
         print("library: depth %d: nv_%s: codes %s; refusals %s: %s" % (
             depth, name, " ".join(map(str, answers)), " ".join(str(n) for n in REFUSALS[name] if n in got),
             "missing %s" % missing if missing else "all that the paper lists"))
-    for name in ("read", "write", "recover"):
+    for name in ("read", "write", "turn", "recover"):
         missing = [a for a in states.ALLOWANCES if (name, a) not in allowances]
         tally.check(not missing, "depth %d: nv_%s not tried with allowances %s" % (depth, name, missing))
     longest = 2 * (2 * depth + 2) + 3
-    tally.check(max(stores) == longest, "depth %d: at most %d stores, %d wanted" % (depth, max(stores), longest))
-    print("library: depth %d: calls with %d different numbers of stores, up to %d" % (depth, len(stores), max(stores)))
+    of_turns = [made for turn, made in stores if turn]
+    others = [made for turn, made in stores if not turn]
+    tally.check(max(others) == longest, "depth %d: at most %d stores, %d wanted" % (depth, max(others), longest))
+    tally.check(max(of_turns) <= 324 + 4 * depth, "depth %d: a turn of %d stores" % (depth, max(of_turns)))
+    print("library: depth %d: calls with %d different numbers of stores, up to %d; turns with %d, up to %d" % (
+        depth, len(others), max(others), len(of_turns), max(of_turns)))
 
 
 def main():

@@ -8,10 +8,10 @@ from model import (Answer, History, Module, UNLIMITED, array_length, bench,
                    brought_forward, cache_length, cells, counter_block,
                    dirty_list_call, for_c, format_call, minors_of, node_cell,
                    number8, pages, lines, read_call, recover_call,
-                   run_history, shadow_cell, slot_of, slots, write_call,
-                   zero_module)
+                   run_history, shadow_cell, slot_of, slots, turn_call,
+                   write_call, zero_module)
 from states import (KEYS, LISTING, OTHER_PAD, OTHER_TAG, PRINTED, cell_patched,
-                    formatted, patched, text_of)
+                    formatted, opened, patched, settled, text_of)
 
 OUTPUT = b"\x5a" * 64
 
@@ -148,13 +148,13 @@ def written(depth, *where):
 
 def test_format():
     for depth in (1, 2, 3):
-        dirty = Module(b"\x11" * array_length(depth), b"\x22" * 664,
+        dirty = Module(b"\x11" * array_length(depth), b"\x22" * 681,
                        b"\x33" * cache_length(depth))
         answer, module = format_call(KEYS, depth, dirty)
         equal("format %d" % depth, answer, Answer("done", 0, 0, 0, 0))
         equal("control of format %d" % depth,
               (module.control[:7], module.control[15:]),
-              (b"PIGK\x01" + bytes([depth, 1]), bytes(649)))
+              (b"PIGK\x01" + bytes([depth, 1]), bytes(666)))
         equal("cache of format %d" % depth, module.cache,
               bytes(cache_length(depth)))
         check("data and blocks of format %d are zero" % depth,
@@ -208,6 +208,74 @@ def test_bytes_of_a_write():
     equal("recovery with a major", recover_call(KEYS, 0, behind),
           (Answer("done", 0, 0, 2, 0),
            behind._replace(cache=module.cache)))
+
+
+def test_bytes_of_a_turn():
+    """Data cells, block, tree and record put together from the primitives."""
+    def tag(message):
+        return model.siphash_2_4(KEYS[32:], message).to_bytes(8, "little")
+
+    module = written(1, 130, 130, 133, 5)
+    answer, after = turn_call(KEYS, 2, UNLIMITED, module)
+    equal("turn of two lines", answer, Answer("done", 0, 14, 0, 0))
+    for line, text in ((130, text_of(1)), (133, text_of(2))):
+        stream = model.chacha20_block(
+            KEYS[:32], line, bytes([1, 0, 0, 0, 1, 0, 0, 0, 0, 0, 0, 0]))
+        content = bytes(a ^ b for a, b in zip(text, stream))
+        side = b"\x01" + tag(content + number8(line) + number8(1)
+                             + number8(1))[:7]
+        equal("turned cell %d" % line, after.array[72 * line:72 * line + 72],
+              content + side)
+    block = number8(1) + (1 << 14 | 1 << 35).to_bytes(56, "little")
+    equal("turned block", after.array[72 * 514:72 * 515], block + bytes(8))
+    equal("slot of the turned block", after.cache[2 * 73:3 * 73],
+          number8(3) + b"\x00" + block)
+    tags = [tag(bytes(64) + number8(0) + number8(page)) for page in range(8)]
+    other = number8(0) + (1 << 35).to_bytes(56, "little")
+    tags[0] = tag(other + number8(0) + number8(0))
+    tags[2] = tag(block + number8(0) + number8(2))
+    equal("top slot over it", after.cache[4 * 73:5 * 73],
+          number8(1) + b"\x01" + b"".join(tags))
+    equal("record after a turn",
+          (after.control[7:15], after.control[15], after.control[664:]),
+          (tag(b"".join(tags) + number8(1) + number8(0)), 0, bytes(17)))
+    equal("page 0 after a turn of page 2", after.cache[:73],
+          number8(1) + b"\x01" + other)
+    for line, text in ((130, text_of(1)), (133, text_of(2)), (5, text_of(3))):
+        equal("line %d after a turn" % line,
+              read_call(KEYS, line, 0, OUTPUT, after)[::2],
+              (Answer("done", 0, 0, 0, 0), text))
+    equal("unwritten line after a turn",
+          read_call(KEYS, 131, 0, OUTPUT, after)[::2],
+          (Answer("blank", 0, 0, 0, 0), bytes(64)))
+
+
+def test_turn_batches():
+    """Stores of turns of 0, 1, 2, 3 and 64 lines, path cached or not."""
+    for depth, far, most in ((1, 256, 328), (2, 1024, 332), (3, 8192, 336)):
+        for count, cached in ((0, 5), (1, 7), (2, 14), (3, 19), (64, 324)):
+            module = read_call(KEYS, far, UNLIMITED, OUTPUT, written(
+                depth, *range(far, far + count)))[1]
+            equal("stores of a turn of %d lines" % count,
+                  turn_call(KEYS, far // 64, UNLIMITED, module)[0],
+                  Answer("done", 0, cached, 0, 0))
+            module = write_call(KEYS, 0, OUTPUT, UNLIMITED, module)[1]
+            stores = turn_call(KEYS, far // 64, UNLIMITED, module)[0].stores
+            equal("the same with the path missing", stores, cached + 4 * depth)
+        equal("most stores of depth %d" % depth, stores, most)
+
+
+def test_turn_again():
+    """A page is turned twice; writes go on from minor 1."""
+    module = written(1, *[70] * 127, 64)
+    equal("worn", write_call(KEYS, 70, OUTPUT, 0, module)[0], refusal(26))
+    for major in (1, 2):
+        _, module = turn_call(KEYS, 1, UNLIMITED, module)
+        _, module = write_call(KEYS, 70, text_of(major), UNLIMITED, module)
+        block = counter_block(major, [1] + [0] * 5 + [2] + [0] * 57)
+        equal("block of major %d" % major, module.cache[73 + 9:2 * 73], block)
+    equal("text after two turns", read_call(KEYS, 70, 0, OUTPUT, module)[2],
+          text_of(2))
 
 
 def test_dirty_slots():
@@ -309,6 +377,7 @@ LINE_DEFECTS = [
     (refusal(6), "line", lambda _: 512),
     (refusal(22), "control", bytes_at(15, b"\x01")),
     (refusal(23), "cache", bytes_at(73, number8(1))),
+    (refusal(30), "control", bytes_at(664, b"\x01" + bytes(8) + number8(2))),
     (refusal(24), "array", cell_bytes_at(512, 0, b"\x01")),
 ]
 
@@ -350,6 +419,67 @@ def test_write_refusals():
     inputs = line_inputs(evicted(127))
     peeled(check_refused, inputs, LINE_DEFECTS)
     check_refused(refusal(26), **inputs)
+
+
+def test_turn_refusals():
+    def check_refused(wanted, keys, page, **parts):
+        module = Module(**parts)
+        for allowance in (0, UNLIMITED):
+            equal("turn refusal", turn_call(keys, page, allowance, module),
+                  (wanted, module))
+
+    other_page = bytes_at(664, b"\x01" + number8(1) + number8(2))
+    defects = [(refusal(6), "page", lambda _: 8) if name == "line" else
+               (wanted, name, other_page) if wanted == refusal(30) else
+               (wanted, name, change) for wanted, name, change in LINE_DEFECTS
+               if name != "buffer"]
+    rows = tuple((line, minor, text_of(line)) for line, minor in
+                 ((2, 7), (9, 127), (63, 1)))
+    worn = settled(1, rows, 2**64 - 1)
+    inputs = dict(worn._asdict(), keys=KEYS, page=0)
+    bad_cells = [(refusal(25, first=line), "array",
+                  cell_bytes_at(line, 64, b"\x00")) for line in (2, 9, 63)]
+    peeled(check_refused, inputs, defects + [(refusal(31), "array",
+                                              bad_cells[0][2])])
+    check_refused(refusal(31), **inputs)
+    inputs.update(settled(1, rows, 2**64 - 2)._asdict())
+    peeled(check_refused, inputs, defects + bad_cells)
+    answer, after = turn_call(KEYS, 0, UNLIMITED, Module(
+        inputs["array"], inputs["control"], inputs["cache"]))
+    equal("turn to the last major", answer, Answer("done", 0, 23, 0, 0))
+    equal("another turn", turn_call(KEYS, 0, UNLIMITED, after)[0], refusal(31))
+
+
+def test_resumed_turns():
+    """Only the mask's lines are checked and turned; those left out keep their
+    cells, which are already turned in a history."""
+    rows = tuple((line, 5, text_of(line)) for line in (64, 65, 66))
+    module = settled(1, rows)
+    junk = module._replace(array=cell_patched(module.array, 64, 0, OUTPUT))
+    whole = 7  # one line: path of two cells, new block, data cell
+    for mask, wanted in (
+            (0b110, Answer("done", 0, 9 + 7, 0, 0)),
+            (0b100, Answer("done", 0, whole + 4, 0, 0)),
+            (0b111, refusal(25, first=64)),
+            (0b1100, refusal(25, first=67)),
+            (0b1001, refusal(25, first=64)),
+            (1 << 63, refusal(25, first=127))):
+        answer, after = turn_call(KEYS, 1, UNLIMITED, opened(junk, 1, mask))
+        equal("resumed turn of mask %s" % bin(mask), answer, wanted)
+        if wanted.kind == "done":
+            equal("block of a resumed turn",
+                  after.array[72 * 513:72 * 513 + 64],
+                  counter_block(1, [1, 1, 1] + [0] * 61))
+            changed = [line for line in range(512)
+                       if after.array[72 * line:72 * line + 72]
+                       != junk.array[72 * line:72 * line + 72]]
+            equal("cells of a resumed turn", changed,
+                  [64 + place for place in range(64) if mask >> place & 1])
+    equal("turn of another page",
+          turn_call(KEYS, 0, 0, opened(module, 1, 1))[0], refusal(30))
+    equal("resumed at the last major",
+          turn_call(KEYS, 1, 0, opened(settled(1, rows, 2**64 - 1), 1, 1))[0],
+          refusal(31))
 
 
 def two_pages():
@@ -469,6 +599,58 @@ def test_bad_control_records():
               wanted)
 
 
+def test_open_sections():
+    """Count, page and mask at bytes 664, 665 and 673."""
+    for depth in (1, 2, 3):
+        fresh = formatted(depth)
+        for section, wanted in (
+                (b"\x02" + bytes(8) + number8(1), 21),
+                (b"\xff" * 17, 21),
+                (b"\x01" + number8(8**depth) + number8(1), 21),
+                (b"\x01" + number8(2**64 - 1) + number8(1), 21),
+                (b"\x01" + bytes(16), 21),
+                (b"\x00" + b"\xff" * 16, 0),
+                (b"\x00" + bytes(16), 0),
+                (b"\x01" + number8(8**depth - 1) + number8(1), 0),
+                (b"\x01" + bytes(8) + number8(2**63), 0)):
+            module = fresh._replace(control=fresh.control[:664] + section)
+            found = (read_call(KEYS, 64, UNLIMITED, OUTPUT, module)[0],
+                     write_call(KEYS, 64, OUTPUT, UNLIMITED, module)[0],
+                     recover_call(KEYS, UNLIMITED, module)[0],
+                     dirty_list_call(bytes(32), module.control,
+                                     module.cache)[0])
+            equal("section %s" % section.hex(),
+                  [answer.number for answer in found], [wanted] * 4)
+
+
+def test_open_page():
+    """An open page is not read, and recovery takes its block as it is."""
+    module = opened(written(1, 0, 0, 0, 0, 64, 64, 129), 0, 1)
+    block = counter_block(0, [4] + [0] * 63)
+    equal("block in the array", module.array[72 * 512:72 * 512 + 64], block)
+    for line, number in ((0, 30), (5, 30), (63, 30), (64, 0), (511, 0)):
+        for answer in (read_call(KEYS, line, UNLIMITED, OUTPUT, module)[0],
+                       write_call(KEYS, line, OUTPUT, UNLIMITED, module)[0]):
+            equal("call on line %d, page 0 open" % line, answer.number, number)
+    for line, phase in ((0, 1), (1, 4), (2, 255), (63, 3)):
+        module = module._replace(array=cell_patched(
+            module.array, line, 64, bytes([phase])))
+    answer, after = recover_call(KEYS, 0, module)
+    equal("recovery of an open page", answer, Answer("done", 0, 0, 3, 0))
+    equal("slot of an open page", after.cache[:73],
+          number8(1) + b"\x01" + block)
+    equal("media after it", after[:2], module[:2])
+    equal("recovery of the same page, not open",
+          recover_call(KEYS, 0, opened(module, 2, 1))[0], refusal(28))
+    behind = opened(written(1, 64, 0, 0), 0, 1)
+    equal("an open page whose block is behind",
+          recover_call(KEYS, 0, behind)[0], refusal(29))
+    unlisted = opened(written(1, 0, 0, 0, 0, 256), 0, 1)
+    answer, after = recover_call(KEYS, 0, unlisted)
+    equal("an open page that no slot has", answer,
+          Answer("done", 0, 0, 1, 0))
+
+
 def test_bad_caches():
     base = two_pages()
     for slot, owner, dirty, wanted in (
@@ -534,6 +716,55 @@ def test_stores_one_by_one():
     equal("whole write", whole, answer)
 
 
+def test_turn_stores_one_by_one():
+    module = written(1, 256, 257, 256, 258, 0)
+    module = module._replace(control=patched(module.control, 665, b"\xee" * 16))
+    _, after = turn_call(KEYS, 4, UNLIMITED, module)
+    old, new = counter_block(0, [2, 1, 1]), counter_block(1, [1, 1, 1])
+
+    def turned(line):
+        return line, after.array[72 * line:72 * line + 72]
+
+    root = module.control[7:15]
+    batches = [
+        ([(512, counter_block(0, [1]) + bytes(8)),
+          (shadow_cell(1, 0), number8(5) + bytes(64)),
+          (516, old + bytes(8)), turned(256)], root,
+         b"\x01" + number8(4) + number8(6)),
+        ([turned(257)], root, b"\x01" + number8(4) + number8(4)),
+        ([(516, new + bytes(8)), turned(258)], after.control[7:15], bytes(17)),
+    ]
+    array, control = bytearray(module.array), bytearray(module.control)
+    states = [(bytes(array), bytes(control))]
+
+    def note():
+        states.append((bytes(array), bytes(control)))
+
+    for batch, new_root, section in batches:
+        for j, (cell, data) in enumerate(batch):
+            control[24 + 80 * j:104 + 80 * j] = number8(cell) + data
+            note()
+        control[15:24] = bytes([len(batch)]) + new_root
+        control[664:681] = section
+        note()
+        for cell, data in batch:
+            array[72 * cell:72 * cell + 72] = data
+            note()
+        control[7:15] = new_root
+        note()
+        control[15] = 0
+        note()
+    equal("number of stores", len(states) - 1, 11 + 5 + 7)
+    for k, wanted in enumerate(states):
+        answer, state = turn_call(KEYS, 4, k, module)
+        equal("turn after %d stores" % k, state[:2], wanted)
+        if k < 23:
+            equal("cut turn %d" % k, (answer, state.cache),
+                  (Answer("cut", 0, k, 0, 0), module.cache))
+    equal("turn done at 23", (answer, state),
+          (Answer("done", 0, 23, 0, 0), after))
+
+
 def test_batch_bound():
     for depth, others, wanted in ((1, 256, 11), (2, 1024, 15), (3, 8192, 19)):
         module = written(depth, 0, 0, 0, others)
@@ -568,7 +799,12 @@ def test_forbidden_lists():
                                      ("recover", OTHER_TAG, 0)],
         "other keys, refused recovery with stores": [
             WRITE, CUT_WRITE, ("recover", OTHER_TAG, UNLIMITED)],
+        "turn after a cut": [WRITE, CUT_WRITE, ("turn", KEYS, 0, 0)],
+        "read after a cut turn": [WRITE, ("turn", KEYS, 0, 3),
+                                  ("read", KEYS, 64, UNLIMITED, OUTPUT)],
+        "other keys, done turn": [WRITE, ("turn", OTHER_PAD, 0, UNLIMITED)],
         "unknown event": [("erase", KEYS)],
+        "page": [("turn", KEYS, 2**64, 0)],
         "allowance": [("recover", KEYS, 2**64)],
     }
     for what, events in forbidden.items():
@@ -583,6 +819,8 @@ def test_allowed_list():
         ("format", OTHER_TAG, 2**64 - 1), ("list", b""),
         ("read", b"k", 0, 0, OUTPUT), ("read", OTHER_TAG, 0, 0, OUTPUT),
         ("write", OTHER_TAG, 64, text_of(3), 0),
+        ("turn", OTHER_TAG, 0, 0), ("turn", KEYS + KEYS, 0, 0),
+        ("turn", KEYS, 8, 0), ("turn", KEYS, 0, UNLIMITED),
         ("recover", OTHER_TAG, 0), ("recover", KEYS + KEYS, 0), CUT_WRITE,
         ("recover", KEYS[:5], 0), ("power_cut", JUNK), ("recover", KEYS, 1),
         ("power_cut", JUNK), ("recover", KEYS, UNLIMITED), ("list", bytes(32)),
@@ -605,8 +843,11 @@ def test_checker_bites():
     def book_count(history):
         history.counts[0] += 1
 
-    def book_total(history):
-        history.committed += 1
+    def book_turns(history):
+        history.turns[0] = 1
+
+    def book_open(history):
+        history.open, history.left = 1, [0]
 
     def book_text(history):
         history.texts[256] = text_of(200)
@@ -625,7 +866,8 @@ def test_checker_bites():
 
     attempt("nothing tampered with",
             lambda: tampered(lambda history: None))
-    for change in (book_count, book_total, book_text, data_cell, top, root):
+    for change in (book_count, book_turns, book_open, book_text, data_cell,
+                   top, root):
         try:
             tampered(change)
         except AssertionError:
@@ -666,10 +908,18 @@ def random_event(rng, history, hot):
     line = rng.choice(hot)
     if rng.random() < 0.1:
         line = rng.randrange(lines(history.depth))
+    if history.open is not None and rng.random() < 0.2:
+        line = 64 * history.open + rng.randrange(3)
     if rng.random() < 0.04:
         line = lines(history.depth) + rng.choice((0, 1, 2**63))
     length = 64 if rng.random() < 0.96 else rng.choice((0, 63, 65))
     content = bytes([rng.randrange(256)]) * length
+    if style < 0.1:
+        if allowance != UNLIMITED:
+            allowance = rng.randrange(40)
+        page = line // 64 if history.open is None or rng.random() < 0.3 else (
+            history.open)
+        return ("turn", keys, page, allowance)
     if style < 0.55:
         return ("write", keys, line, content, allowance)
     if style < 0.75:
@@ -693,7 +943,7 @@ def check_step(history, before, event, answer, output):
         model.claim(history.module == before, "module changed by a refusal")
     if answer.kind == "cut":
         model.claim(history.module.cache == before.cache, "cache at a cut")
-        model.claim(answer.stores == event[{"read": 3, "write": 4,
+        model.claim(answer.stores == event[{"read": 3, "write": 4, "turn": 3,
                                             "recover": 2}[kind]],
                     "stores of a cut")
     if kind == "read":
@@ -741,8 +991,9 @@ def random_history(seed, depth, length, hot_lines):
     events += [("power_cut", bytes(cache_length(depth))),
                ("recover", KEYS, UNLIMITED)]
     again = run_history(KEYS, depth, events)
-    model.claim((again.counts, again.texts) == (history.counts, history.texts),
-                "book of the same list")
+    model.claim((again.counts, again.texts, again.turns, again.open)
+                == (history.counts, history.texts, history.turns,
+                    history.open), "book of the same list")
     return seen
 
 
@@ -760,7 +1011,9 @@ def test_random_histories():
 
             attempt(what, action)
     for name in ("write done", "write cut", "read done", "read blank",
-                 "read cut", "recover done", "recover cut", "list done",
+                 "read cut", "turn done", "turn cut", "turn refused 2",
+                 "turn refused 6", "turn refused 30", "read refused 30",
+                 "write refused 30", "recover done", "recover cut", "list done",
                  "power_cut", "write refused 2", "write refused 6",
                  "write refused 7", "read refused 2", "read refused 6",
                  "read refused 7", "recover refused 2", "recover refused 29",
@@ -831,8 +1084,50 @@ def test_every_cut():
     attempt("every cut at depth 3", lambda: every_cut(3, 0, 8192, 0))
 
 
+def every_cut_of_a_turn(before, rounds, again):
+    """A turn of page 4 cut at every store, recovered from, and resumed, so
+    many times cut at every store again."""
+    whole, _ = turn_call(KEYS, 4, UNLIMITED, before.module)
+    lines_left = len(before.left) or len(before.counts) - 1
+    last_cells = 2 if lines_left > 1 else (whole.stores - 3) // 2
+    finishes = whole.stores - 3 - last_cells
+    for k in range(whole.stores):
+        part = before.copy()
+        part.step(("turn", KEYS, 4, k))
+        model.claim((part.turns.get(4, 0) > before.turns.get(4, 0))
+                    == (k > finishes), "book of a turn cut after %d" % k)
+        for ended in every_recovery(part, rounds):
+            if ended.open is not None:
+                model.claim(ended.open == 4, "open page")
+                for refused in (("write", KEYS, 257, text_of(1), 0),
+                                ("read", KEYS, 300, 0, OUTPUT),
+                                ("turn", KEYS, 0, 0)):
+                    model.claim(ended.step(refused)[0] == refusal(30), "30")
+                ended.step(("write", KEYS, 0, text_of(k), UNLIMITED))
+            if ended.open is not None and again:
+                every_cut_of_a_turn(ended, 0, again - 1)
+            if ended.turns.get(4, 0) == before.turns.get(4, 0):
+                answer, _ = ended.step(("turn", KEYS, 4, UNLIMITED))
+                model.claim(answer.kind == "done", "turn resumed")
+            ended.step(("write", KEYS, 256, text_of(k), UNLIMITED))
+            ended.step(("power_cut", bytes(cache_length(1))))
+            ended.step(("recover", KEYS, UNLIMITED))
+            model.claim(ended.counts[256] == 2, "count since the turn")
+
+
+def test_every_cut_of_a_turn():
+    for others in ((), (257,), (257, 319)):
+        def action(others=others):
+            history = History(KEYS, 1)
+            for line in (256, 256, *others, 0):
+                history.step(("write", KEYS, line, text_of(line), UNLIMITED))
+            every_cut_of_a_turn(history, 1, 1)
+        attempt("every cut of a turn, %d lines" % (1 + len(others)), action)
+
+
 def test_worn_line():
-    """A line up to its last minor, with cuts on the way."""
+    """A line up to its last minor, with cuts on the way; then its page is
+    turned."""
     def action():
         history = History(KEYS, 1)
         for count in range(127):
@@ -846,19 +1141,30 @@ def test_worn_line():
         answer, _ = history.step(("recover", KEYS, UNLIMITED))
         model.claim(answer.first == 3, "sum for 127 writes")
         model.claim(history.counts == {70: 127}, "127 writes")
+        history.step(("turn", KEYS, 1, UNLIMITED))
+        model.claim(history.counts == {70: 1}, "count after a turn")
+        history.step(("write", KEYS, 70, text_of(1), UNLIMITED))
+        history.step(("power_cut", bytes(cache_length(1))))
+        answer, _ = history.step(("recover", KEYS, UNLIMITED))
+        model.claim(answer.first == 1, "sum after a turn")
     attempt("worn line", action)
 
 
 def main():
     for test in (test_primitives, test_arithmetic, test_bench, test_format,
-                 test_bytes_of_a_write, test_dirty_slots,
+                 test_bytes_of_a_write, test_bytes_of_a_turn,
+                 test_turn_batches, test_turn_again, test_dirty_slots,
                  test_format_refusals, test_read_refusals,
-                 test_write_refusals, test_recovery_refusals,
+                 test_write_refusals, test_turn_refusals,
+                 test_resumed_turns, test_recovery_refusals,
                  test_list_refusals, test_bad_top, test_bad_nodes,
-                 test_bad_shadows, test_bad_control_records, test_bad_caches,
-                 test_c_side, test_stores_one_by_one, test_batch_bound,
+                 test_bad_shadows, test_bad_control_records,
+                 test_open_sections, test_open_page, test_bad_caches,
+                 test_c_side, test_stores_one_by_one,
+                 test_turn_stores_one_by_one, test_batch_bound,
                  test_forbidden_lists, test_allowed_list, test_checker_bites,
-                 test_random_histories, test_every_cut, test_worn_line):
+                 test_random_histories, test_every_cut,
+                 test_every_cut_of_a_turn, test_worn_line):
         try:
             test()
         except Exception as failure:

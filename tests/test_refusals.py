@@ -15,8 +15,9 @@ from states import KEYS, cell_patched, patched, slot_patched, text_of
 # The paper's sequences; in recovery a cut comes with the pending stores.
 ORDER = {
     "format": (1, 2, 3, 4, 5),
-    "read": (2, 3, 21, 4, 5, 7, 6, 22, 23, 24, 25),
-    "write": (2, 3, 21, 4, 5, 7, 6, 22, 23, 24, 26),
+    "read": (2, 3, 21, 4, 5, 7, 6, 22, 23, 30, 24, 25),
+    "write": (2, 3, 21, 4, 5, 7, 6, 22, 23, 30, 24, 26),
+    "turn": (2, 3, 21, 4, 5, 6, 22, 23, 30, 24, 31, 25),
     "recover": (2, 3, 21, 4, 5, "cut", 27, 28, 29),
     "dirty_pages": (3, 21, 5, 7, 23),
 }
@@ -50,7 +51,19 @@ def bad_controls(depth):
                                                            (5, b"\xff"), (15, b"\x09"), (15, b"\xff")]
     pieces += [(15, bytes([place + 1]) + bytes(8) + bytes(80 * place) + number8(cell))
                for place in (0, 7) for cell in (model.cells(depth), 2**64 - 1)]
+    pieces += [(664, section(*parts)) for parts in ((2, 0, 1), (255, 0, 1), (1, model.pages(depth), 1), (1, 2**64 - 1, 1),
+                                                    (1, 0, 0))]
     return [Fault(21, changed("control", lambda c, at=at, piece=piece: patched(c, at, piece))) for at, piece in pieces]
+
+
+def section(count, page, mask):
+    return bytes([count]) + number8(page) + number8(mask)
+
+
+def open_pages(page):
+    """A turn of the line's page that is not finished, whichever lines are left."""
+    return [Fault(30, changed("control", lambda c, m=mask: patched(c, 664, section(1, page, m))))
+            for mask in (1, 2**63, 2**64 - 1)]
 
 
 def other_depths(depth):
@@ -106,10 +119,68 @@ def line_faults(name, depth, line, worn):
     buffer = "out" if name == "read" else "text"
     faults = wrong_lengths(2, "keys") + wrong_lengths(3, "control") + bad_controls(depth) + wrong_lengths(4, "array")
     faults += wrong_lengths(5, "cache") + wrong_lengths(7, buffer) + bad_lines(depth)
-    faults += pending(depth) + bad_caches(depth) + bad_nodes(depth, line)
+    faults += pending(depth) + bad_caches(depth) + open_pages(line // 64) + bad_nodes(depth, line)
     if name == "read":
         return faults + bad_data(line)
     return faults + [Fault(26, lambda a: {**a, "array": worn.array, "control": worn.control})]
+
+
+def other_page_open(depth, page):
+    return [Fault(30, changed("control", lambda c, p=other, m=mask: patched(c, 664, section(1, p, m))))
+            for other in {0, page - 1, page ^ 1} for mask in (1, 2**64 - 1)]
+
+
+def with_difference(data, one, other):
+    """The data changed where the other two differ, so that what else was changed in it stays."""
+    bits = (int.from_bytes(part, "little") for part in (data, one, other))
+    return (next(bits) ^ next(bits) ^ next(bits)).to_bytes(len(data), "little")
+
+
+def last_major(module, worn):
+    """The page at major 2^64 - 1, its tree, root and data cells with it."""
+    return [Fault(31, lambda a: {**a, "array": with_difference(a["array"], module.array, worn.array),
+                                 "control": patched(a["control"], 7, worn.control[7:15])})]
+
+
+def bad_turn_data(lines):
+    return [Fault(25, changed("array", lambda a, at=CELL * line + offset: patched(a, at, bytes([a[at] ^ 1]))), (line, 0), line)
+            for line in lines for offset in (0, 63, 64, 65, 71)]
+
+
+def mask_of(lines):
+    return sum(1 << line % 64 for line in lines)
+
+
+def lines_without_text(left, unwritten):
+    """A mask that has a line of minor 0 beside those that are left."""
+    return [Fault(25, changed("control", lambda c, l=line: patched(c, 673, number8(mask_of(left + (l,))))), (line, 0), line)
+            for line in unwritten]
+
+
+def turn_faults(depth, page, module, worn):
+    faults = wrong_lengths(2, "keys") + wrong_lengths(3, "control") + bad_controls(depth) + wrong_lengths(4, "array")
+    faults += wrong_lengths(5, "cache") + [Fault(6, changed("page", lambda _, p=p: p))
+                                           for p in (model.pages(depth), 2**32, 2**64 - 1)]
+    return (faults + pending(depth) + bad_caches(depth) + other_page_open(depth, page) + bad_nodes(depth, 64 * page)
+            + last_major(module, worn))
+
+
+def turn_bases(depth):
+    """Arguments of turns without a fault, and faults: of a page with three written lines; of the same page open with two
+    lines left, the third one's cell not what its minor says, to the last major."""
+    page = model.pages(depth) - 2
+    lines = tuple(64 * page + place for place in (3, 20, 62))
+    rows = tuple((line, minor, text_of(line)) for line, minor in zip(lines, (1, 127, 6)))
+    module, worn = states.settled(depth, rows), states.settled(depth, rows, 2**64 - 1)
+    unread = patched(module.control, 665, b"\xff" * 16)
+    parts = {"array": module.array, "control": unread, "page": page}
+    yield parts, turn_faults(depth, page, module, worn) + bad_turn_data(lines)
+    left = lines[1:]
+    module = states.settled(depth, rows, 2**64 - 2)
+    parts = {"array": cell_patched(module.array, lines[0], 64, b"\x04"), "page": page,
+             "control": patched(module.control, 664, section(1, page, mask_of(left)))}
+    faults = bad_turn_data(left) + lines_without_text(left, (64 * page, 64 * page + 63))
+    yield parts, turn_faults(depth, page, module, worn) + faults
 
 
 def format_faults(depth):
@@ -225,7 +296,7 @@ class Refusals:
         arguments = fault.change(base)
         self.hold(name, fault, arguments)
         self.numbers_first(name, arguments)
-        if name in ("read", "write"):
+        if name in ("read", "write", "turn"):
             self.hold(name, fault, {**arguments, "allowance": 0})
         self.singles += 1
 
@@ -241,14 +312,14 @@ class Refusals:
         self.tally.check(code in (0, 1), "nv_%s without a fault gave %d" % (name, code))
         for fault in faults:
             self.one(name, fault, base)
-        if name in ("read", "write", "recover") and base["control"][15] == 0:
+        if name in ("read", "write", "turn", "recover") and base["control"][15] == base["control"][664] == 0:
             for fault in other_depths(base["depth"]):
                 self.one(name, fault, base)
         missing = [n for n in ORDER[name] if n not in {f.number for f in faults}
                    and not (n == "cut" and base["control"][15] == 0)]
         self.tally.check(not missing, "nv_%s: no fault for %s" % (name, missing))
         for one, other in combinations(thinned(faults, len(base.get("array", b""))), 2):
-            if one.number != other.number or one.number in (24, 27):
+            if one.number != other.number or one.number in (24, 25, 27):
                 if one.place != other.place or one.number != other.number:
                     self.both(name, one, other, base)
 
@@ -265,14 +336,25 @@ def thinned(faults, length):
 
 
 def recovery_bases(depth):
-    """Nothing pending; a batch of one cell pending; a batch with evictions pending. Each with lines on listed pages."""
+    """Nothing pending; a batch of one cell pending; a batch with evictions pending; the same with a listed page open whose
+    phases are no phases. Each with lines on listed pages that are not open."""
     far = 64 * 4
     last = 65 if depth == 1 else 65 + far
     module = states.written(states.formatted(depth), 0, 1, 64, last)
     yield module, (1, 63)
     yield model.write_call(KEYS, 1, text_of(7), 2, module)[1], (2, 63)
     evicting = model.write_call(KEYS, far + 3, text_of(9), UNLIMITED, module)[0]
-    yield model.write_call(KEYS, far + 3, text_of(9), (evicting.stores - 3) // 2 + 1, module)[1], (last + 1,)
+    pending = model.write_call(KEYS, far + 3, text_of(9), (evicting.stores - 3) // 2 + 1, module)[1]
+    yield pending, (last + 1,)
+    yield with_open(depth, module, 0), (last + 1,)
+    yield with_open(depth, pending, last // 64), (far + 4,)
+
+
+def with_open(depth, module, page):
+    module = states.opened(states.block_stored(depth, module, page), page, 2**63)
+    for place, phase in ((0, 4), (17, 255), (63, 2)):
+        module = module._replace(array=cell_patched(module.array, 64 * page + place, CONTENT, bytes([phase])))
+    return module
 
 
 def at_depth(depth):
@@ -280,12 +362,15 @@ def at_depth(depth):
     line = model.lines(depth) - 3
     module = states.settled(depth, ((line, 126, text_of(5)),))
     worn = states.settled(depth, ((line, 127, text_of(5)),))
-    parts = {"keys": KEYS, "control": module.control, "array": module.array, "cache": module.cache, "depth": depth,
+    unread = patched(module.control, 665, b"\xff" * 16)  # page and mask with count 0
+    parts = {"keys": KEYS, "control": unread, "array": module.array, "cache": module.cache, "depth": depth,
              "line": line, "out": text_of(1), "text": text_of(2), "list": bytes(32), "allowance": UNLIMITED,
              "numbers": NUMBERS}
     refusals.call("format", parts, format_faults(depth))
     for name in ("read", "write"):
         refusals.call(name, parts, line_faults(name, depth, line, worn))
+    for more, faults in turn_bases(depth):
+        refusals.call("turn", {**parts, **more}, faults)
     refusals.call("dirty_pages", parts, list_faults(depth))
     for module, lines in recovery_bases(depth):
         any_cache = bytes([3]) * model.cache_length(depth)

@@ -1,7 +1,7 @@
 -- The refusals one by one, in sequence. Assumes nothing.
-use mathlib.Core.Path.{_≡_, ap}
-use mathlib.Core.Bool.{true, false, not}
-use mathlib.Core.List.{List}
+use mathlib.Core.Path.{_≡_, ap, ap₂, _∙_}
+use mathlib.Core.Bool.{Bool, true, false, not}
+use mathlib.Core.List.{List, [], _∷_}
 use Prim.Native.Nat.{ℕ, _≤_, _<_}
 use native.Mathlib.Omega.{arith}
 use borrow.Author.Tests.{le-leb, lt-leb, lt-ltb, le-ltb}
@@ -9,7 +9,8 @@ use lib.ListN.{length}
 use Rattle.memory_map.specs.Map.{lines, arrayLength}
 use Rattle.slot_map.specs.Slots.{cacheLength}
 use Rattle.control.specs.Control.{controlLength, depth, count, valid}
-use Rattle.calls.specs.Call.{Module, openingTests, entryRefusal}
+use Rattle.cache.specs.Cache.{formed}
+use Rattle.calls.specs.Call.{Module, judged, openingTests, entryRefusal}
 use Rattle.calls.specs.Recovery.{recoveryRefusal}
 use Rattle.call_laws.proofs.Judged.{here, on, end, unlike-true, unlike-false, judged-front, Opened, opened-on}
 
@@ -73,3 +74,10 @@ module _ (keys : List ℕ) (line : ℕ) (b : List ℕ) (m : Module) where
         is-idle p =
             opened-on _ o (on _ _ _ (unlike-false s)
             (on _ _ _ (lt-leb _ line i) (on _ _ _ (le-ltb 0 (count (m .control)) (omega arith)) end)))
+
+-- the last tests, at the depth of the record
+abbrev last : ℕ → List ℕ → Bool → ℕ
+last h c kept = judged ((not (formed h c), 23) ∷ (kept, 30) ∷ [])
+
+pub at-depth : (c k : List ℕ) {h r : ℕ} {kept t : Bool} → r ≡ last h c kept → h ≡ depth k → kept ≡ t → r ≡ last (depth k) c t
+at-depth c k e d q = e ∙ ap₂ {C = ℕ} (λ (n : ℕ) (b : Bool). last n c b) d q

@@ -3,6 +3,7 @@ ghost use mathlib.Core.Path.{_≡_};
 ghost use Rattle.calls.specs.Call.{buffers};
 ghost use Rattle.calls.specs.Read.{read as readOf};
 ghost use Rattle.calls.specs.Write.{write as writeOf};
+ghost use Rattle.calls.specs.Turn.{turn as turnOf};
 ghost use Rattle.calls.specs.Recovery.{recover as recoverOf};
 ghost use Rattle.calls.specs.Format.{format as formatOf};
 ghost use Rattle.calls.specs.DirtyPages.{dirtyPages};
@@ -91,6 +92,32 @@ pub extern "C" fn nv_write(
         return BAD_NUMBERS;
     }
     let answer = write::write(keys, control, array, cache, line, text, allowance);
+    tell(answer, numbers)
+}
+
+#[no_mangle]
+pub extern "C" fn nv_turn(
+    keys: &[u8],
+    control: &mut [u8],
+    array: &mut [u8],
+    cache: &mut [u8],
+    page: u64,
+    allowance: u64,
+    numbers: &mut [u8],
+) -> u32
+    ensures { λ r. ⌜ r ≡ codeForC (now (numbers .entry)) ((turnOf (now (keys .entry)) page allowance
+        (buffers (now (array .entry)) (now (control .entry)) (now (cache .entry)))) .answer) ⌝ }
+    ensures { λ _. ⌜ now (numbers .exit) ≡ bufferForC (now (numbers .entry)) ((turnOf (now (keys .entry)) page allowance
+        (buffers (now (array .entry)) (now (control .entry)) (now (cache .entry)))) .answer) ⌝ }
+    ensures { λ _. ⌜ buffers (now (array .exit)) (now (control .exit)) (now (cache .exit))
+        ≡ leftForC (now (numbers .entry)) (buffers (now (array .entry)) (now (control .entry)) (now (cache .entry)))
+        ((turnOf (now (keys .entry)) page allowance
+        (buffers (now (array .entry)) (now (control .entry)) (now (cache .entry)))) .after) ⌝ }
+{
+    if numbers.len() != 24 {
+        return BAD_NUMBERS;
+    }
+    let answer = turn::turn(keys, control, array, cache, page, allowance);
     tell(answer, numbers)
 }
 

@@ -1,10 +1,10 @@
--- The allowance rule, for read, write and recovery: no call makes more stores than it is allowed, one is cut exactly where it is allowed
--- fewer than it makes when allowed enough, with just that number, and otherwise the allowance changes nothing. Assumes nothing.
+-- The allowance rule, for read, write, turn and recovery: no call makes more stores than it is allowed, one is cut exactly where it is
+-- allowed fewer than it makes when allowed enough, with just that number, and otherwise the allowance changes nothing. Assumes nothing.
 use mathlib.Core.Path.{_≡_, refl, sym, ap, _∙_, subst}
 use mathlib.Core.Logic.{⊎-elim}
 use mathlib.Core.Bool.{Bool, true, false, cond}
 use mathlib.Core.List.{List}
-use Prim.Native.Nat.{ℕ, zero, suc, _≤_, _<_}
+use Prim.Native.Nat.{ℕ, zero, suc, _-_, _^_, _≤_, _<_}
 use native.Mathlib.Nat.{le-refl, le-trans, le-of-eq, not-suc-le-zero}
 use native.Mathlib.Omega.{arith}
 use lib.Dec.{eqb}
@@ -14,7 +14,8 @@ use Rattle.words.proofs.Order.{lt-or-ge}
 use Rattle.answer.specs.declared.Answer.{Answer}
 use Rattle.answer.specs.declared.Answer.the-variants.{Done, Blank, Cut, Refused}
 use Rattle.answer.specs.Answer.{storesOf}
-use Rattle.control.specs.Control.{depth, root}
+use Rattle.counter.specs.Counter.{major}
+use Rattle.control.specs.Control.{Cell, depth, root}
 use Rattle.cache.specs.declared.Found.{Found}
 use Rattle.cache.specs.declared.Found.the-variants.{Nothing, At}
 use Rattle.cache.specs.Cache.{shadowOwners, current, badSlot, emptyCache}
@@ -25,6 +26,9 @@ use Rattle.calls.specs.Path.{Loaded, loaded, differs}
 use Rattle.calls.specs.Call.{Module, Called, mediaOf, withMedia, refuse, storing, accessRefusal, pathOf}
 use Rattle.calls.specs.Read.{answered, refusedRead, lineMinor, sideOk, lineText, readLoaded, readPath, readJudged, read}
 use Rattle.calls.specs.Write.{writeStores, writtenCache, writeLoaded, writePath, writeJudged, write}
+use Rattle.calls.specs.Turn.{turnRefusal, blockOf, turnPlaces, badLine, turnBatches, storesFor, turnedCache, turnChecked}
+use Rattle.calls.specs.Turn.{turnLoaded, turnPath}
+use Rattle.calls.specs.Turn.{pagePath, turnJudged, turn}
 use Rattle.calls.specs.Recovery.{Rebuilt, rebuilt, damaged, rebuildBlocks, rebuildNodes, recoveryRefusal}
 use Rattle.calls.specs.Recovery.{recoverRoot, recoverRebuilt, recoverShadow, recoverMedia, recoverJudged, recover}
 use Rattle.calls.specs.History.{NotCut}
@@ -158,6 +162,34 @@ module _ (keys : List ℕ) (line : ℕ) (m : Module) where
     pub write-limited : Limited (λ a. write keys line text a m)
     write-limited = write-judged (accessRefusal keys line text m)
 
+-- ---- turn
+
+module _ (keys : List ℕ) (p : ℕ) (m : Module) where
+  turn-checked : (c : List ℕ) (x : List Cell) (f : Found) → Limited (λ a. turnChecked keys p a m c x f)
+  unfolding turnChecked storesOf
+  turn-checked c x (At n) = refused-limited m 25 n 0
+  turn-checked c x Nothing =
+      let xs = storesFor (turnBatches keys p m c x) in
+      stored-limited m xs (Done (length xs) 0) (turnedCache (depth (m .control)) keys c p) refl (done-not (length xs) 0)
+
+  turn-worn : (b : Bool) (c : List ℕ) (x : List Cell) (f : Found) → Limited (λ a. cond b (refuse m 31 0 0) (turnChecked keys p a m c x f))
+  turn-worn true c x f = refused-limited m 31 0 0
+  turn-worn false c x f = turn-checked c x f
+
+  turn-path : (r : Loaded) → Limited (λ a. turnPath keys p a m r)
+  unfolding turnPath turnLoaded
+  turn-path (differs l i) = refused-limited m 24 l i
+  turn-path (loaded c x) =
+      turn-worn (eqb (major (blockOf c p)) (2 ^ 64 - 1)) c x (badLine keys (m .array) c p (turnPlaces (m .control) c p))
+
+  turn-judged : (n : ℕ) → Limited (λ a. turnJudged n keys p a m)
+  unfolding turnJudged
+  turn-judged zero = turn-path (pagePath keys p m)
+  turn-judged (suc n) = refused-limited m (suc n) 0 0
+
+  pub turn-limited : Limited (λ a. turn keys p a m)
+  turn-limited = turn-judged (turnRefusal keys p m)
+
 -- ---- recovery
 
 module _ (keys : List ℕ) (k : ℕ) (m : Module) where
@@ -189,7 +221,7 @@ module _ (keys : List ℕ) (k : ℕ) (m : Module) where
   unfolding recoverShadow
   tells-shadow os (At s) = tells-refused 27 s
   tells-shadow os Nothing =
-      tells-rebuilt os (rebuildBlocks (depth (m .control)) (m .array) 0 (take 4 os) (emptyCache (depth (m .control))) 0)
+      tells-rebuilt os (rebuildBlocks (depth (m .control)) (m .control) (m .array) 0 (take 4 os) (emptyCache (depth (m .control))) 0)
 
   tells-media : Tells (recoverMedia keys k m)
   tells-media =

@@ -20,9 +20,9 @@ use Rattle.slot_map.proofs.Laws.{slot-within}
 use Rattle.control.specs.Control.{Cell, controlLength}
 use Rattle.cache.specs.Cache.{owner, dirty, content, cellContent, holds}
 use Rattle.cache.proofs.Laws.{Formed, dirty-owner, owner-holds}
-use Rattle.journal.specs.Journal.{media, storeAll, made, batchStores}
+use Rattle.journal.specs.Journal.{Store, Media, media, storeAll, made, batchStores}
 use Rattle.journal.proofs.Each.{Each, none, more, each-append, each-take}
-use Rattle.journal.proofs.Kept.{Within, within-batch, avoids-batch, stores-apart, made-kept, Formed as Media·Formed}
+use Rattle.journal.proofs.Kept.{Within, Avoids, within-batch, avoids-batch, stores-apart, made-kept, Formed as Media·Formed}
 use Rattle.calls.specs.Path.{nodeCell, shadowCell, evicted}
 use Rattle.call_laws.specs.Walk.{nodeCells, pathCells, withPath}
 use Rattle.call_laws.proofs.Loads.{Sound, Fit, cells-sound, path-few}
@@ -95,13 +95,21 @@ module _ (h : ℕ) (c : List ℕ) (f : Formed h c) (p : ℕ) (page : p < pages h
 front : (s : List ℕ) (n : ℕ) → part s (72 * n) 64 ≡ take 64 (part s (72 * n) 72)
 front s n = sym (take-take 64 72 (drop (72 * n) s) (lit≤ tt))
 
-module _ (h : ℕ) (high : h ≤ 3) (a k : List ℕ) (whole : length a ≡ arrayLength h) (record664 : length k ≡ controlLength)
+-- any stores, of a cell that they do not name
+pub made-content : {size : ℕ} {m : Media} (allowance n : ℕ) {xs : List Store} → Media·Formed size m → Each (Within (size / 72)) xs
+    → Each (Avoids n) xs → cellContent (storeAll m (made allowance xs) .array) n ≡ cellContent (m .array) n
+unfolding cellContent
+made-content {m = m} allowance n {xs} f w e =
+    front (storeAll m (made allowance xs) .array) n ∙ ap (take 64) (stores-apart n f (each-take allowance w) (each-take allowance e))
+    ∙ sym (front (m .array) n)
+
+module _ (h : ℕ) (high : h ≤ 3) (a k : List ℕ) (whole : length a ≡ arrayLength h) (record681 : length k ≡ controlLength)
     (plain : Below 256 a) (plain-k : Below 256 k) (cs : List Cell) (sound : Each (Sound h) cs) (few : length cs ≤ 8) (allowance r : ℕ) where
   abbrev pub stored : List ℕ
   stored = storeAll (media a k) (made allowance (batchStores cs r)) .array
 
   formed : Media·Formed (length a) (media a k)
-  formed = record { array-length = refl; control-length = record664; array-bytes = plain; control-bytes = plain-k }
+  formed = record { array-length = refl; control-length = record681; array-bytes = plain; control-bytes = plain-k }
 
   within : Each (Within (length a / 72)) (batchStores cs r)
   within = rw (array-cells h (length a) whole) (within-batch (cells h) r (wholes h high sound) (in-map h sound) few)
@@ -110,22 +118,18 @@ module _ (h : ℕ) (high : h ≤ 3) (a k : List ℕ) (whole : length a ≡ array
   stored-length = made-kept allowance formed within .array-length
 
   pub content-kept : (y : Item) → Each (Other h y) cs → cellContent stored (cellOf h y) ≡ cellContent a (cellOf h y)
-  unfolding cellContent
-  content-kept y e =
-      let n = cellOf h y in
-      let same = stores-apart n formed (each-take allowance within) (each-take allowance (avoids-batch n r e)) in
-      front stored n ∙ ap (take 64) same ∙ sym (front a n)
+  content-kept y e = made-content allowance (cellOf h y) formed within (avoids-batch (cellOf h y) r e)
 
 -- ---- of the path's own batch
 
-module _ (h : ℕ) (low : 1 ≤ h) (high : h ≤ 3) (a k c : List ℕ) (whole : length a ≡ arrayLength h) (record664 : length k ≡ controlLength)
+module _ (h : ℕ) (low : 1 ≤ h) (high : h ≤ 3) (a k c : List ℕ) (whole : length a ≡ arrayLength h) (record681 : length k ≡ controlLength)
     (plain : Below 256 a) (plain-k : Below 256 k) (fit : Fit h c) (p : ℕ) (page : p < pages h) (allowance r : ℕ) where
   abbrev after : List ℕ
   after = storeAll (media a k) (made allowance (batchStores (pathCells h c p (suc h)) r)) .array
 
   kept : (y : Item) → Each (Other h y) (pathCells h c p (suc h)) → cellContent after (cellOf h y) ≡ cellContent a (cellOf h y)
   kept =
-      content-kept h high a k whole record664 plain plain-k (pathCells h c p (suc h)) (cells-sound h c fit p page (suc h) (le-refl (suc h)))
+      content-kept h high a k whole record681 plain plain-k (pathCells h c p (suc h)) (cells-sound h c fit p page (suc h) (le-refl (suc h)))
       (omega (arith, path-few h c fit p page low)) allowance r
 
   pub line-content : (n : ℕ) → n < lines h → cellContent after n ≡ cellContent a n

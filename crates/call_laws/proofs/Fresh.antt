@@ -20,15 +20,15 @@ use Rattle.call_laws.proofs.Tags.{tags-length, tags-bytes}
 
 -- ---- the fresh tree
 
-pub fresh-length : (keys : List ℕ) (f : ℕ → ℕ) (l i : ℕ) → length (freshNode keys f l i) ≡ 64
+pub fresh-length : (keys : List ℕ) (majors f : ℕ → ℕ) (l i : ℕ) → length (freshNode keys majors f l i) ≡ 64
 unfolding freshNode
-fresh-length keys f zero i = length-counterBlock 0 (countsFrom f (64 * i) 64)
-fresh-length keys f (suc l) i = tags-length keys l (freshNode keys f l) (8 * i) 8
+fresh-length keys majors f zero i = length-counterBlock (majors i) (countsFrom f (64 * i) 64)
+fresh-length keys majors f (suc l) i = tags-length keys l (freshNode keys majors f l) (8 * i) 8
 
-pub fresh-bytes : (keys : List ℕ) (f : ℕ → ℕ) (l i : ℕ) → Below 256 (freshNode keys f l i)
+pub fresh-bytes : (keys : List ℕ) (majors f : ℕ → ℕ) (l i : ℕ) → Below 256 (freshNode keys majors f l i)
 unfolding freshNode
-fresh-bytes keys f zero i = below-counterBlock 0 (countsFrom f (64 * i) 64)
-fresh-bytes keys f (suc l) i = tags-bytes keys l (freshNode keys f l) (8 * i) 8
+fresh-bytes keys majors f zero i = below-counterBlock (majors i) (countsFrom f (64 * i) 64)
+fresh-bytes keys majors f (suc l) i = tags-bytes keys l (freshNode keys majors f l) (8 * i) 8
 
 -- ---- its cells
 
@@ -36,13 +36,13 @@ pub node-cells-length : (keys : List ℕ) (l i n : ℕ) → length (nodeCells ke
 unfolding nodeCells
 node-cells-length keys l i zero = refl
 node-cells-length keys l i (suc n) =
-    let b = freshNode keys (λ x. 0) l i in
+    let b = freshNode keys (λ p. 0) (λ n. 0) l i in
     omega (
       arith,
       length-append (b ++ replicate 8 0) (nodeCells keys l (suc i) n),
       length-append b (replicate 8 0),
       length-replicate {A = ℕ} 8 0,
-      fresh-length keys (λ x. 0) l i,
+      fresh-length keys (λ p. 0) (λ n. 0) l i,
       node-cells-length keys l (suc i) n,
     )
 
@@ -50,7 +50,7 @@ node-cells-bytes : (keys : List ℕ) (l i n : ℕ) → Below 256 (nodeCells keys
 unfolding nodeCells
 node-cells-bytes keys l i zero = below-nil (lit< tt)
 node-cells-bytes keys l i (suc n) =
-    below-append _ (nodeCells keys l (suc i) n) (below-append _ (replicate 8 0) (fresh-bytes keys (λ x. 0) l i) (zeros-bytes 8))
+    below-append _ (nodeCells keys l (suc i) n) (below-append _ (replicate 8 0) (fresh-bytes keys (λ p. 0) (λ n. 0) l i) (zeros-bytes 8))
     (node-cells-bytes keys l (suc i) n)
 
 pub level-cells-length : (keys : List ℕ) (h n : ℕ) (rest : List ℕ)
@@ -96,12 +96,12 @@ control-length h r = refl
 pub control-bytes : (h r : ℕ) → h < 256 → Below 256 (freshControl h r)
 unfolding freshControl
 control-bytes h r p =
-    below-append (toLe 4 mark ++ (1 ∷ h ∷ 1 ∷ []) ++ toLe 8 r) (replicate 649 0)
+    below-append (toLe 4 mark ++ (1 ∷ h ∷ 1 ∷ []) ++ toLe 8 r) (replicate 666 0)
     (below-append (toLe 4 mark ++ (1 ∷ h ∷ 1 ∷ [])) (toLe 8 r)
     (below-append (toLe 4 mark) (1 ∷ h ∷ 1 ∷ []) (below-digits 256 4 mark (lit< tt))
     (below-cons (lit< tt) (below-cons p (below-cons (lit< tt) (below-nil (lit< tt))))))
     (below-digits 256 8 r (lit< tt)))
-    (zeros-bytes 649)
+    (zeros-bytes 666)
 
 -- ---- the call
 
@@ -110,11 +110,11 @@ unfolding formatted
 formatted-kept keys h m ok =
     record {
       array = array-length keys h ∙ sym (ok .fits .array);
-      control = control-length h (freshRoot keys (λ x. 0) h) ∙ sym (ok .record664);
+      control = control-length h (freshRoot keys (λ p. 0) (λ n. 0) h) ∙ sym (ok .record681);
       cache = length-empty h ∙ sym (ok .fits .cache);
       bytes = record {
         array = array-bytes keys h;
-        control = control-bytes h (freshRoot keys (λ x. 0) h) (omega (arith, ok .high));
+        control = control-bytes h (freshRoot keys (λ p. 0) (λ n. 0) h) (omega (arith, ok .high));
         cache = below-empty h;
       };
     }

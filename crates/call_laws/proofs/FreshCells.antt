@@ -1,4 +1,4 @@
--- The cells of a formatted array: no data, the fresh tree of no writes, and an empty shadow. Assumes nothing.
+-- The cells of a formatted array: no data, the fresh tree of no turns and no writes, and an empty shadow. Assumes nothing.
 use mathlib.Core.Path.{_≡_, refl, sym, ap, ap₂, _∙_}
 use mathlib.Core.Logic.{_⊎_, inl, inr}
 use mathlib.Core.List.{List, _∷_, _++_}
@@ -18,18 +18,19 @@ use Rattle.cache.specs.Cache.{cellContent}
 use Rattle.calls.specs.Format.{countsFrom, freshNode, nodeCells, levelCells, freshArray}
 use Rattle.call_laws.proofs.Fresh.{fresh-length, node-cells-length}
 
--- no writes
+-- no turns of a page, no writes of a line
 abbrev pub none : ℕ → ℕ
 none n = 0
 
 module _ (keys : List ℕ) where
   -- a node's cell, with its side bytes
   abbrev pub freshCell : ℕ → ℕ → List ℕ
-  freshCell l i = freshNode keys none l i ++ replicate 8 0
+  freshCell l i = freshNode keys none none l i ++ replicate 8 0
 
   cell-length : (l i : ℕ) → length (freshCell l i) ≡ 72
   cell-length l i =
-      omega (arith, length-append (freshNode keys none l i) (replicate 8 0), fresh-length keys none l i, length-replicate {A = ℕ} 8 0)
+      let b = freshNode keys none none l i in
+      omega (arith, length-append b (replicate 8 0), fresh-length keys none none l i, length-replicate {A = ℕ} 8 0)
 
   cells-at : (l i n k : ℕ) → k < n → part (nodeCells keys l i n) (72 * k) 72 ≡ freshCell l (i + k)
   unfolding nodeCells
@@ -101,11 +102,11 @@ module _ (keys : List ℕ) (h : ℕ) where
   unfolding freshArray
   cell-stored l i p q = cell-of (suc h) l i (replicate (72 * shadowCells h) 0) (omega arith) q
 
-  pub node-stored : (l i : ℕ) → l ≤ h → i < nodes h l → cellContent (freshArray keys h) (cellOf h (node l i)) ≡ freshNode keys none l i
+  pub node-stored : (l i : ℕ) → l ≤ h → i < nodes h l → cellContent (freshArray keys h) (cellOf h (node l i)) ≡ freshNode keys none none l i
   unfolding cellContent cellOf
   node-stored l i p q =
       sym (take-take 64 72 (drop (72 * (levelStart h l + i)) (freshArray keys h)) (omega arith)) ∙ ap (take 64) (cell-stored l i p q)
-      ∙ take-at (freshNode keys none l i) (replicate 8 0) 64 (fresh-length keys none l i)
+      ∙ take-at (freshNode keys none none l i) (replicate 8 0) 64 (fresh-length keys none none l i)
 
   -- what lies before the tree, and behind it
   pub lines-zero : take (72 * lines h) (freshArray keys h) ≡ replicate (72 * lines h) 0

@@ -6,14 +6,15 @@ use Prim.Native.Nat.{ℕ, suc, _≤_, _<_}
 use native.Mathlib.Omega.{arith}
 use lib.Dec.{eqb, leb}
 use lib.ListN.{length}
-use borrow.Author.Tests.{eq-eqb, ne-eqb, lt-leb, le-ltb, not-false, eqb-true, leb-true, leb-false, ltb-false}
-use Rattle.memory_map.specs.Map.{lines, arrayLength}
+use borrow.Author.Tests.{eq-eqb, ne-eqb, lt-leb, le-leb, lt-ltb, le-ltb, not-false, eqb-true, leb-true, leb-false, ltb-false}
+use Rattle.memory_map.specs.Map.{pageOf, pages, lines, arrayLength}
 use Rattle.slot_map.specs.Slots.{cacheLength}
-use Rattle.control.specs.Control.{controlLength, depth, count, valid, pending}
+use Rattle.control.specs.Control.{controlLength, depth, count, isOpen, otherOpen, valid, pending}
 use Rattle.control.proofs.Laws.{Head, valid-parts}
 use Rattle.cache.specs.Cache.{formed}
 use Rattle.calls.specs.Call.{Module, judged, lengthTests, openingTests, entryTests, entryRefusal, accessRefusal, unlike}
 use Rattle.calls.specs.Recovery.{recoveryRefusal}
+use Rattle.calls.specs.Turn.{turnRefusal}
 use Rattle.calls.specs.Format.{formatRefusal}
 
 pub record Passed (t : Bool) (xs : List (Bool × ℕ)) : Type 0 where
@@ -72,7 +73,7 @@ sized h m xs e =
 -- 2 3 21 4 5
 pub record Opened (keys : List ℕ) (m : Module) : Type 0 where
   pub keys48 : length keys ≡ 48
-  pub record664 : length (m .control) ≡ controlLength
+  pub record681 : length (m .control) ≡ controlLength
   pub right : valid (m .control) ≡ true
   pub fits : Sized (depth (m .control)) m
 
@@ -82,7 +83,7 @@ opened keys m xs e =
     let q = passed (not (eqb (length (m .control)) controlLength)) 2 _ (p .rest) in
     let r = passed (not (valid (m .control))) 20 _ (q .rest) in
     let s = sized (depth (m .control)) m xs (r .rest) in
-    (record { keys48 = alike _ _ (p .test); record664 = alike _ _ (q .test); right = not-false _ (r .test); fits = s .0 }, s .1)
+    (record { keys48 = alike _ _ (p .test); record681 = alike _ _ (q .test); right = not-false _ (r .test); fits = s .0 }, s .1)
 
 pub recovery-opened : (keys : List ℕ) (m : Module) → recoveryRefusal keys m ≡ 0 → Opened keys m
 unfolding recoveryRefusal
@@ -92,8 +93,15 @@ recovery-opened keys m e = opened keys m [] e .0
 pub opened-on : {keys : List ℕ} {m : Module} (ys : List (Bool × ℕ)) {r : ℕ} → Opened keys m → r ≡ judged ys
     → r ≡ judged (openingTests keys m ++ ys)
 opened-on ys o e =
-    on _ _ _ (unlike-false (o .keys48)) (on _ _ _ (unlike-false (o .record664)) (on _ _ _ (ap not (o .right))
+    on _ _ _ (unlike-false (o .keys48)) (on _ _ _ (unlike-false (o .record681)) (on _ _ _ (ap not (o .right))
     (on _ _ _ (unlike-false (o .fits .array)) (on _ _ _ (unlike-false (o .fits .cache)) e))))
+
+-- nothing is pending
+idle-of : (m : Module) → pending (m .control) ≡ false → count (m .control) ≡ 0
+idle-of m e = omega (arith, ltb-false 0 (count (m .control)) e)
+
+idle-on : (m : Module) → count (m .control) ≡ 0 → pending (m .control) ≡ false
+idle-on m e = le-ltb 0 (count (m .control)) (omega arith)
 
 -- and 7 6 22
 pub record Entered (keys : List ℕ) (line : ℕ) (b : List ℕ) (m : Module) : Type 0 where
@@ -102,10 +110,19 @@ pub record Entered (keys : List ℕ) (line : ℕ) (b : List ℕ) (m : Module) : 
   pub inside : line < lines (depth (m .control))
   pub idle : count (m .control) ≡ 0
 
--- and 23
+-- last 23 30, where the page is not kept for a turn
+abbrev stateTests : Bool → Module → List (Bool × ℕ)
+stateTests kept m = (not (formed (depth (m .control)) (m .cache)), 23) ∷ (kept, 30) ∷ []
+
+state-passed : (kept : Bool) (m : Module) → judged (stateTests kept m) ≡ 0
+    → (formed (depth (m .control)) (m .cache) ≡ true) × (kept ≡ false)
+state-passed kept m e =
+    let p = passed (not (formed (depth (m .control)) (m .cache))) 22 _ e in (not-false _ (p .test), passed kept 29 [] (p .rest) .test)
+
 pub record Accepted (keys : List ℕ) (line : ℕ) (b : List ℕ) (m : Module) : Type 0 where
   pub entry : Entered keys line b m
   pub shaped : formed (depth (m .control)) (m .cache) ≡ true
+  pub closed : isOpen (m .control) (pageOf line) ≡ false
 
 module _ (keys : List ℕ) (line : ℕ) (b : List ℕ) (m : Module) where
   entered : (xs : List (Bool × ℕ)) → judged (entryTests keys line b m ++ xs) ≡ 0 → Entered keys line b m × (judged xs ≡ 0)
@@ -118,7 +135,7 @@ module _ (keys : List ℕ) (line : ℕ) (b : List ℕ) (m : Module) where
           opening = o .0;
           buffer = alike _ _ (p .test);
           inside = leb-false _ _ (q .test);
-          idle = omega (arith, ltb-false 0 (count (m .control)) (r .test));
+          idle = idle-of m (r .test);
         },
         r .rest,
       )
@@ -131,34 +148,66 @@ module _ (keys : List ℕ) (line : ℕ) (b : List ℕ) (m : Module) where
   unfolding accessRefusal
   access-accepted e =
       let p = entered _ e in
-      let q = passed (not (formed (depth (m .control)) (m .cache))) 22 [] (p .1) in
-      record { entry = p .0; shaped = not-false _ (q .test) }
+      let q = state-passed (isOpen (m .control) (pageOf line)) m (p .1) in
+      record { entry = p .0; shaped = q .0; closed = q .1 }
 
   -- a refusal before 23
   pub entry-refused : {n : ℕ} → n ≡ entryRefusal keys line b m → (n ≡ 0 → ⊥) → n ≡ accessRefusal keys line b m
   unfolding entryRefusal accessRefusal
   entry-refused e p = judged-front (entryTests keys line b m) _ e p
 
-  -- past the tests before it: 23, or none
-  module _ (p : Entered keys line b m) where
-    entered-on : (ys : List (Bool × ℕ)) {r : ℕ} → r ≡ judged ys → r ≡ judged (entryTests keys line b m ++ ys)
-    entered-on ys e =
-        opened-on _ (p .opening) (on _ _ _ (unlike-false (p .buffer)) (on _ _ _ (lt-leb _ line (p .inside))
-        (on _ _ _ (le-ltb 0 (count (m .control)) (omega (arith, p .idle))) e)))
+  -- past the tests before it: 23, 30, or none
+  pub entry-on : {r : ℕ} → Entered keys line b m → r ≡ judged (stateTests (isOpen (m .control) (pageOf line)) m)
+      → r ≡ accessRefusal keys line b m
+  unfolding accessRefusal
+  entry-on p e =
+      opened-on _ (p .opening) (on _ _ _ (unlike-false (p .buffer)) (on _ _ _ (lt-leb _ line (p .inside))
+      (on _ _ _ (idle-on m (p .idle)) e)))
 
-    pub not-formed : formed (depth (m .control)) (m .cache) ≡ false → 23 ≡ accessRefusal keys line b m
-    unfolding accessRefusal
-    not-formed e = entered-on _ (here _ _ _ (ap not e))
+-- of a turn, past 2 3 21 4 5: 6 22 23 30
+pub record TurnAccepted (keys : List ℕ) (p : ℕ) (m : Module) : Type 0 where
+  pub opening : Opened keys m
+  pub inside : p < pages (depth (m .control))
+  pub idle : count (m .control) ≡ 0
+  pub shaped : formed (depth (m .control)) (m .cache) ≡ true
+  pub closed : otherOpen (m .control) p ≡ false
 
-    pub is-formed : formed (depth (m .control)) (m .cache) ≡ true → 0 ≡ accessRefusal keys line b m
-    unfolding accessRefusal
-    is-formed e = entered-on _ (on _ _ _ (ap not e) end)
+module _ (keys : List ℕ) (p : ℕ) (m : Module) where
+  pub turn-accepted : turnRefusal keys p m ≡ 0 → TurnAccepted keys p m
+  unfolding turnRefusal
+  turn-accepted e =
+      let o = opened keys m _ e in
+      let q = passed (leb (pages (depth (m .control))) p) 5 _ (o .1) in
+      let r = passed (pending (m .control)) 21 _ (q .rest) in
+      let s = state-passed (otherOpen (m .control) p) m (r .rest) in
+      record { opening = o .0; inside = leb-false _ _ (q .test); idle = idle-of m (r .test); shaped = s .0; closed = s .1 }
+
+  -- a refusal among the first tests
+  pub turn-first : {n : ℕ} → n ≡ recoveryRefusal keys m → (n ≡ 0 → ⊥) → n ≡ turnRefusal keys p m
+  unfolding recoveryRefusal turnRefusal
+  turn-first e q = judged-front (openingTests keys m) _ e q
+
+  -- past them: 6, 22, and what is last
+  module _ (o : Opened keys m) where
+    pub turn-past : pages (depth (m .control)) ≤ p → 6 ≡ turnRefusal keys p m
+    unfolding turnRefusal
+    turn-past q = opened-on _ o (here _ _ _ (le-leb _ p q))
+
+    module _ (i : p < pages (depth (m .control))) where
+      pub turn-pending : (count (m .control) ≡ 0 → ⊥) → 22 ≡ turnRefusal keys p m
+      unfolding turnRefusal
+      turn-pending q = opened-on _ o (on _ _ _ (lt-leb _ p i) (here _ _ _ (lt-ltb 0 (count (m .control)) (omega arith))))
+
+      -- 23, 30, or none
+      pub turn-on : {r : ℕ} → count (m .control) ≡ 0 → r ≡ judged (stateTests (otherOpen (m .control) p) m) → r ≡ turnRefusal keys p m
+      unfolding turnRefusal
+      turn-on z e = opened-on _ o (on _ _ _ (lt-leb _ p i) (on _ _ _ (idle-on m z) e))
 
 pub record Formattable (keys : List ℕ) (h : ℕ) (m : Module) : Type 0 where
   pub low : 1 ≤ h
   pub high : h ≤ 3
   pub keys48 : length keys ≡ 48
-  pub record664 : length (m .control) ≡ controlLength
+  pub record681 : length (m .control) ≡ controlLength
   pub fits : Sized h m
 
 pub format-accepted : (keys : List ℕ) (h : ℕ) (m : Module) → formatRefusal keys h m ≡ 0 → Formattable keys h m
@@ -172,10 +221,10 @@ format-accepted keys h m e =
       low = leb-true 1 h (depths .0);
       high = leb-true h 3 (depths .1);
       keys48 = alike _ _ (q .test);
-      record664 = alike _ _ (r .test);
+      record681 = alike _ _ (r .test);
       fits = sized h m [] (r .rest) .0;
     }
 
 -- the depth of a valid control record
 pub head-of : (keys : List ℕ) (m : Module) → Opened keys m → Head (m .control)
-head-of keys m o = valid-parts (o .right) .0
+head-of keys m o = valid-parts (o .right) .head

@@ -10,16 +10,15 @@ use lib.ListN.{length, replicate, length-replicate}
 use borrow.Author.Tests.{lt-ltb}
 use Rattle.words.specs.Bytes.{toLe}
 use Rattle.words.proofs.Digits.{Below, below-digits, length-digits}
-use Rattle.memory_map.specs.Map.{cells, arrayLength, pages, pageOf, placeOf, InMap, cellOf, onPath}
+use Rattle.memory_map.specs.Map.{cells, arrayLength, pages, pageOf, placeOf, onPath}
 use Rattle.slot_map.specs.Slots.{cacheLength, slotOf}
 use Rattle.words.proofs.Parts.{length-put, below-put}
 use Rattle.tag.specs.Tag.{nodeTag}
-use Rattle.memory_map.specs.Map.Item.{line}
 use Rattle.memory_map.proofs.Laws.{cells-small, page-inside}
 use Rattle.slot_map.proofs.Laws.{slot-within}
 use Rattle.control.specs.Control.{Cell, controlLength, depth, root, inMap}
-use Rattle.cache.specs.Cache.{formed, content, cellContent}
-use Rattle.cache.proofs.Laws.{formed-facts, length-with, below-with, content-length, content-below, cell-length, cell-below, slot-room}
+use Rattle.cache.specs.Cache.{formed, content}
+use Rattle.cache.proofs.Laws.{formed-facts, length-with, below-with, content-length, content-below, slot-room}
 use Rattle.journal.specs.Journal.{Store, storeAll, made, isCut, batchStores}
 use Rattle.journal.proofs.Each.{Each, none, more}
 use Rattle.journal.proofs.Kept.{Within, within-batch, made-kept, Formed as Media·Formed}
@@ -29,17 +28,14 @@ use Rattle.answer.specs.declared.Answer.the-variants.{Done, Blank, Cut}
 use Rattle.calls.specs.Path.{Loaded, loaded, differs, renewed, renewPath}
 use Rattle.counter.specs.Counter.{major}
 use Rattle.counter.proofs.Laws.{length-withMinor, below-withMinor}
-use Rattle.pad.specs.Pad.{pad}
-use Rattle.pad.proofs.Nonce.{length-pad, below-pad}
-use Rattle.pad.proofs.Xor.{length-xor, below-xor}
 use Rattle.calls.specs.Call.{Module, Called, mediaOf, withMedia, refuse, storing, pathOf, accessRefusal}
 use Rattle.calls.specs.Read.{Reading, answered, pageBlock, lineMinor, refusedRead}
 use Rattle.calls.specs.Read.{sideOk, lineText, readLoaded, readPath, readJudged, read}
-use Rattle.calls.specs.Write.{newMinor, newBlock, stopLoss, dataCell, writeBatch, writeStores}
+use Rattle.calls.specs.Write.{newMinor, newBlock, stopLoss, lineCell, writeBatch, writeStores}
 use Rattle.calls.specs.Write.{writtenCache, writeLoaded, writePath, writeJudged, write}
-use Rattle.call_laws.specs.Line.{lineCell, blockCells}
+use Rattle.call_laws.specs.Line.{blockCells}
 use Rattle.call_laws.proofs.Judged.{Opened, Accepted, access-accepted, head-of}
-use Rattle.call_laws.proofs.Line.{Lent, all-length, all-sound, block-few}
+use Rattle.call_laws.proofs.Line.{Lent, all-length, all-sound, block-few, text-length, text-bytes}
 use Rattle.call_laws.proofs.Loads.{Sound, Fit, Loads, LoadsIf, path-loads, zeros-bytes}
 
 -- the buffers of a module hold bytes
@@ -87,14 +83,14 @@ pub record Buffers (h : ℕ) (m : Module) : Type 0 where
   pub bytes : Bytes m
   pub high : h ≤ 3
   pub whole : length (m .array) ≡ arrayLength h
-  pub record664 : length (m .control) ≡ controlLength
+  pub record681 : length (m .control) ≡ controlLength
 
 -- stores of sound cells, as far as an allowance goes
 module _ {h : ℕ} {m : Module} (w : Buffers h m) where
-  open Buffers w using (bytes, high, whole, record664)
+  open Buffers w using (bytes, high, whole, record681)
 
   pub media-formed : Media·Formed (length (m .array)) (mediaOf m)
-  media-formed = record { array-length = refl; control-length = record664; array-bytes = bytes .array; control-bytes = bytes .control }
+  media-formed = record { array-length = refl; control-length = record681; array-bytes = bytes .array; control-bytes = bytes .control }
 
   batch-within : {xs : List Cell} (r : ℕ) → Each (Sound h) xs → length xs ≤ 8 → Each (Within (length (m .array) / 72)) (batchStores xs r)
   batch-within r s few = rw (array-cells h (length (m .array)) whole) (within-batch (cells h) r (wholes h high s) (in-map h s) few)
@@ -105,12 +101,12 @@ module _ {h : ℕ} {m : Module} (w : Buffers h m) where
       let f = made-kept a media-formed s in
       record {
         array = f .array-length;
-        control = f .control-length ∙ sym record664;
+        control = f .control-length ∙ sym record681;
         cache = e;
         bytes = record { array = f .array-bytes; control = f .control-bytes; cache = p };
       }
 
-  storing-kept : (a : ℕ) (xs : List Store) (answer : Answer) (c : List ℕ) → Each (Within (length (m .array) / 72)) xs
+  pub storing-kept : (a : ℕ) (xs : List Store) (answer : Answer) (c : List ℕ) → Each (Within (length (m .array) / 72)) xs
       → length c ≡ length (m .cache) → Below 256 c → Kept m ((storing a m xs answer c) .after)
   unfolding storing
   storing-kept a xs answer c s e p = go (isCut a xs)
@@ -148,7 +144,7 @@ module _ {h : ℕ} {c : List ℕ} (fit : Fit h c) where
         (content-below c (slotOf (suc l) i) (fit .bytes)) (below-digits 256 8 _ (lit< tt))
 
     module _ (d : ℕ) (flag : d < 256) where
-      renew-sized : (l : ℕ) → l ≤ h → length (renewPath keys c p b d l) ≡ cacheLength h
+      pub renew-sized : (l : ℕ) → l ≤ h → length (renewPath keys c p b d l) ≡ cacheLength h
       unfolding renewPath
       renew-sized zero q = length-with h c (fit .sized) (slotOf 0 p) (slot-within h 0 p zero-le) (suc p) d b size ∙ fit .sized
       renew-sized (suc l) q =
@@ -157,7 +153,7 @@ module _ {h : ℕ} {c : List ℕ} (fit : Fit h c) where
           (suc (onPath p (suc l))) 1 (renewed keys c p b (suc l)) (renewed-length (suc l) q)
           ∙ r
 
-      renew-bytes : (l : ℕ) → l ≤ h → Below 256 (renewPath keys c p b d l)
+      pub renew-bytes : (l : ℕ) → l ≤ h → Below 256 (renewPath keys c p b d l)
       unfolding renewPath
       renew-bytes zero q = below-with h c (fit .sized) (slotOf 0 p) (slot-within h 0 p zero-le) (suc p) d b size flag plain (fit .bytes)
       renew-bytes (suc l) q =
@@ -186,7 +182,7 @@ module _ {keys : List ℕ} {n : ℕ} {buffer : List ℕ} {m : Module} (g : Given
   page = page-inside h n (ok .entry .inside)
 
   buffers : Buffers h m
-  buffers = record { bytes = bytes; high = head-of keys m opening .flat; whole = opening .fits .array; record664 = opening .record664 }
+  buffers = record { bytes = bytes; high = head-of keys m opening .flat; whole = opening .fits .array; record681 = opening .record681 }
 
   accepted-path : LoadsIf h (pathOf keys n m)
   accepted-path =
@@ -226,12 +222,12 @@ module _ {keys : List ℕ} {n : ℕ} {buffer : List ℕ} {m : Module} (g : Given
         }
 
     pub batch-sound : (x : List Cell) → Each (Sound h) x → Each (Sound h) (writeBatch h keys n buffer c x)
-    unfolding writeBatch dataCell lineCell blockCells
+    unfolding writeBatch lineCell blockCells
     batch-sound x s = all-sound h keys n buffer ma mi (newBlock c n) x lent s
 
     -- the bound on a batch: at most 2h + 2 cells
     pub batch-bound : (x : List Cell) → length x ≤ 2 * h → length (writeBatch h keys n buffer c x) ≤ 2 * h + 2
-    unfolding writeBatch dataCell lineCell blockCells
+    unfolding writeBatch lineCell blockCells
     batch-bound x few =
         omega (arith, all-length h keys n buffer ma mi (newBlock c n) x, block-few h (pageOf n) mi (newBlock c n))
 
@@ -287,17 +283,6 @@ module _ {keys : List ℕ} {n : ℕ} {buffer : List ℕ} {m : Module} (g : Given
       plain-output true = plain
       plain-output false = b
 
-  text-size : (c : List ℕ) → length (lineText keys (m .array) c n) ≡ 64
-  unfolding lineText InMap cellOf
-  text-size c =
-      let whole = cell-length h (m .array) (line n) (opening .fits .array) (ok .entry .inside) in
-      length-xor (cellContent (m .array) n) (pad keys n (major (pageBlock c n)) (lineMinor c n)) (rw (length-pad, whole) (le-refl 64))
-      ∙ whole
-
-  text-bytes : (c : List ℕ) → Below 256 (lineText keys (m .array) c n)
-  unfolding lineText
-  text-bytes c = below-xor (cellContent (m .array) n) _ (cell-below (m .array) n (bytes .array)) (below-pad keys n _ _)
-
   read-loaded : (a : ℕ) (c : List ℕ) (x : List Cell) → Loads h c x → ReadKept m buffer (readLoaded keys n a m buffer c x)
   unfolding readLoaded
   read-loaded a c x l = go (eqb (lineMinor c n) 0) (sideOk keys (m .array) c n)
@@ -308,7 +293,8 @@ module _ {keys : List ℕ} {n : ℕ} {buffer : List ℕ} {m : Module} (g : Given
       go : (t u : Bool) → ReadKept m buffer (cond t (answered a m xs (Blank (length xs)) c (replicate 64 0) buffer)
           (cond u (answered a m xs (Done (length xs) 0) c (lineText keys (m .array) c n) buffer) (refusedRead (refuse m 25 n 0) buffer)))
       go true u = answered-kept a c x _ (replicate 64 0) l (length-replicate {A = ℕ} 64 0) (zeros-bytes 64)
-      go false true = answered-kept a c x _ (lineText keys (m .array) c n) l (text-size c) (text-bytes c)
+      go false true = answered-kept a c x _ (lineText keys (m .array) c n) l
+          (text-length h keys (m .array) c n (opening .fits .array) (ok .entry .inside)) (text-bytes h keys (m .array) c n (bytes .array))
       go false false = refused-read m bytes buffer plain 25 n 0
 
   read-path : (a : ℕ) (r : Loaded) → LoadsIf h r → ReadKept m buffer (readPath keys n a m buffer r)

@@ -12,3 +12,5 @@ pub mod Rebuilt
 pub mod Staged
 pub mod Storing
 pub mod Tags
+pub mod Turn
+pub mod Turned

@@ -1,4 +1,4 @@
--- The cells of a write at a counter, behind those of its path: they are sound, and at most two. Assumes nothing.
+-- The cells of a write at a counter, behind those of its path: they are sound, and at most two. The text of a line. Assumes nothing.
 use mathlib.Core.Path.{_≡_, ap, _∙_}
 use mathlib.Core.Bool.{Bool, true, false, cond}
 use mathlib.Core.List.{List, [], _∷_, _++_}
@@ -8,19 +8,22 @@ use native.Mathlib.Omega.{arith}
 use lib.Dec.{eqb, lit<}
 use lib.ListN.{length, length-append}
 use Rattle.words.proofs.Digits.{Below, below-append, below-cons, below-digits, length-digits}
-use Rattle.memory_map.specs.Map.{lines, pageOf, cellOf, InMap}
+use Rattle.memory_map.specs.Map.{lines, arrayLength, pageOf, cellOf, InMap}
 use Rattle.memory_map.specs.Map.Item.{line}
 use Rattle.memory_map.proofs.Laws.{cell-within, page-node}
-use Rattle.counter.specs.Counter.{phaseOf}
+use Rattle.counter.specs.Counter.{major, phaseOf}
 use Rattle.pad.specs.Pad.{pad, xorBytes}
 use Rattle.pad.proofs.Nonce.{length-pad, below-pad}
 use Rattle.pad.proofs.Xor.{length-xor, below-xor}
 use Rattle.tag.specs.Tag.{dataTag}
 use Rattle.control.specs.Control.{Cell}
+use Rattle.cache.specs.Cache.{cellContent}
+use Rattle.cache.proofs.Laws.{cell-length, cell-below}
 use Rattle.journal.proofs.Each.{Each, none, more, each-append}
 use Rattle.calls.specs.Path.{nodeCell}
-use Rattle.calls.specs.Read.{sideBytes}
-use Rattle.call_laws.specs.Line.{lineCell, blockCells}
+use Rattle.calls.specs.Read.{sideBytes, pageBlock, lineMinor, lineText}
+use Rattle.calls.specs.Write.{lineCell}
+use Rattle.call_laws.specs.Line.{blockCells}
 use Rattle.call_laws.proofs.Loads.{Sound, sound-node}
 
 -- a line of the map, its text and the counter block to be
@@ -46,7 +49,7 @@ module _ (keys : List ℕ) (n : ℕ) (text : List ℕ) (ma mi : ℕ) where
       length-append sealed (sideBytes keys sealed n ma mi)
       ∙ omega (arith, sealed-length e, length-digits 256 7 (dataTag keys sealed n ma mi))
 
-  line-sound : {h : ℕ} {b : List ℕ} → Lent h n text b → Sound h (lineCell keys n text ma mi)
+  pub line-sound : {h : ℕ} {b : List ℕ} → Lent h n text b → Sound h (lineCell keys n text ma mi)
   unfolding lineCell InMap cellOf
   line-sound {h} v =
       record {
@@ -56,6 +59,19 @@ module _ (keys : List ℕ) (n : ℕ) (text : List ℕ) (ma mi : ℕ) where
             below-append sealed (sideBytes keys sealed n ma mi) (below-xor text (pad keys n ma mi) (v .text-bytes) (below-pad keys n ma mi))
             (below-cons (omega arith) (below-digits 256 7 _ (lit< tt)));
       }
+
+-- ---- the text of a line, from its data cell
+
+module _ (h : ℕ) (keys a c : List ℕ) (n : ℕ) where
+  pub text-length : length a ≡ arrayLength h → n < lines h → length (lineText keys a c n) ≡ 64
+  unfolding lineText InMap cellOf
+  text-length whole inside =
+      let full = cell-length h a (line n) whole inside in
+      length-xor (cellContent a n) (pad keys n (major (pageBlock c n)) (lineMinor c n)) (rw (length-pad, full) (le-refl 64)) ∙ full
+
+  pub text-bytes : Below 256 a → Below 256 (lineText keys a c n)
+  unfolding lineText
+  text-bytes plain = below-xor (cellContent a n) _ (cell-below a n plain) (below-pad keys n _ _)
 
 -- ---- the counter block
 

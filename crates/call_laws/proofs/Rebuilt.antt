@@ -27,7 +27,7 @@ use Rattle.journal.proofs.Each.{Each, each-take}
 use Rattle.journal.proofs.Kept.{Within, within-pending, stores-front}
 use Rattle.answer.specs.declared.Answer.the-variants.{Done, Cut, Refused}
 use Rattle.calls.specs.Call.{Module, Called, mediaOf, withMedia}
-use Rattle.calls.specs.Recovery.{forwardFrom, total, Rebuilt, rebuilt, damaged, rebuildBlock}
+use Rattle.calls.specs.Recovery.{forwardPage, total, Rebuilt, rebuilt, damaged, rebuildBlock}
 use Rattle.calls.specs.Recovery.{rebuildSlot, rebuildBlocks, rebuildNode, rebuildNodes, recoverRoot, recoverRebuilt}
 use Rattle.calls.specs.Recovery.{recoverShadow, recoverMedia, recoverJudged, recover, recoveryRefusal}
 use Rattle.call_laws.proofs.Judged.{Opened, recovery-opened, head-of}
@@ -55,13 +55,13 @@ PlainIf : ℕ → Rebuilt → Type 0
 PlainIf h damaged = Unit {0}
 PlainIf h (rebuilt c t) = Plain h c
 
-module _ (h : ℕ) (a : List ℕ) where
+module _ (h : ℕ) (k a : List ℕ) where
   abbrev block : ℕ → List ℕ
   block p = cellContent a (cellOf h (node 0 p))
 
-  block-plain : (c : List ℕ) (sum s p : ℕ) → s < slots h → Plain h c → PlainIf h (rebuildBlock h a c sum s p)
+  block-plain : (c : List ℕ) (sum s p : ℕ) → s < slots h → Plain h c → PlainIf h (rebuildBlock h k a c sum s p)
   unfolding rebuildBlock PlainIf
-  block-plain c sum s p within plain = go (forwardFrom a (64 * p) (minors (block p)))
+  block-plain c sum s p within plain = go (forwardPage k a p (minors (block p)))
     where
       go : (r : Option (List ℕ)) → PlainIf h (elim r as (λ z. Rebuilt) [
         | none ↦ damaged
@@ -70,21 +70,21 @@ module _ (h : ℕ) (a : List ℕ) where
       go none = tt
       go (some ms) = with-plain h s (suc p) 1 _ c within (lit< tt) (length-counterBlock _ ms) (below-counterBlock _ ms) plain
 
-  slot-plain : (c : List ℕ) (sum s o : ℕ) → s < slots h → Plain h c → PlainIf h (rebuildSlot h a c sum s o)
+  slot-plain : (c : List ℕ) (sum s o : ℕ) → s < slots h → Plain h c → PlainIf h (rebuildSlot h k a c sum s o)
   unfolding rebuildSlot PlainIf
   slot-plain c sum s zero within plain = plain
   slot-plain c sum s (suc p) within plain = block-plain c sum s p within plain
 
-  blocks-plain : (s : ℕ) (os c : List ℕ) (sum : ℕ) → s + length os ≤ slots h → Plain h c → PlainIf h (rebuildBlocks h a s os c sum)
+  blocks-plain : (s : ℕ) (os c : List ℕ) (sum : ℕ) → s + length os ≤ slots h → Plain h c → PlainIf h (rebuildBlocks h k a s os c sum)
   unfolding rebuildBlocks PlainIf
   blocks-plain s [] c sum few plain = plain
   blocks-plain s (o ∷ os) c sum few plain =
-      next s os (omega arith) (λ d t p. blocks-plain (suc s) os d t (omega arith) p) (rebuildSlot h a c sum s o)
+      next s os (omega arith) (λ d t p. blocks-plain (suc s) os d t (omega arith) p) (rebuildSlot h k a c sum s o)
       (slot-plain c sum s o (omega arith) plain)
     where
       next : (s : ℕ) (os : List ℕ) → suc s + length os ≤ slots h
-          → ((d : List ℕ) (t : ℕ) → Plain h d → PlainIf h (rebuildBlocks h a (suc s) os d t)) → (r : Rebuilt) → PlainIf h r
-          → PlainIf h (elim r as (λ z. Rebuilt) [ damaged ↦ damaged | rebuilt d t ↦ rebuildBlocks h a (suc s) os d t ])
+          → ((d : List ℕ) (t : ℕ) → Plain h d → PlainIf h (rebuildBlocks h k a (suc s) os d t)) → (r : Rebuilt) → PlainIf h r
+          → PlainIf h (elim r as (λ z. Rebuilt) [ damaged ↦ damaged | rebuilt d t ↦ rebuildBlocks h k a (suc s) os d t ])
       next s os few rec damaged p = tt
       next s os few rec (rebuilt d t) p = rec d t p
 
@@ -134,14 +134,14 @@ module _ (keys : List ℕ) (k : ℕ) (m : Module) (b : Bytes m) (sized : length 
   rebuilt-call os e damaged p = kept-same m b
   rebuilt-call os e (rebuilt d sum) p =
       root-kept sum (rebuildNodes h keys (m .array) 4 (drop 4 os) d)
-      (nodes-plain h (m .array) keys 4 (drop 4 os) d (omega (arith, length-drop 4 os)) p)
+      (nodes-plain h (m .control) (m .array) keys 4 (drop 4 os) d (omega (arith, length-drop 4 os)) p)
 
   shadow-call : (os : List ℕ) → length os ≡ slots h → (f : Found) → Kept m ((recoverShadow keys k m os f) .after)
   unfolding recoverShadow slots
   shadow-call os e (At s) = kept-same m b
   shadow-call os e Nothing =
-      rebuilt-call os e (rebuildBlocks h (m .array) 0 (take 4 os) (emptyCache h) 0)
-      (blocks-plain h (m .array) 0 (take 4 os) (emptyCache h) 0 (omega (arith, length-take 4 os)) (empty-plain h))
+      rebuilt-call os e (rebuildBlocks h (m .control) (m .array) 0 (take 4 os) (emptyCache h) 0)
+      (blocks-plain h (m .control) (m .array) 0 (take 4 os) (emptyCache h) 0 (omega (arith, length-take 4 os)) (empty-plain h))
 
   media-kept : Kept m ((recoverMedia keys k m) .after)
   media-kept = shadow-call (shadowOwners h (m .array)) (from-length _ 0 (slots h)) (badSlot h (shadowOwners h (m .array)))
@@ -157,13 +157,13 @@ front-depth k l e = sym (getD-part k 0 7 5 (lit< tt)) ∙ ap (λ (x : List ℕ).
 
 module _ (keys : List ℕ) (m : Module) (b : Bytes m) (ok : Opened keys m) where
   buffers : Buffers (depth (m .control)) m
-  buffers = record { bytes = b; high = head-of keys m ok .flat; whole = ok .fits .array; record664 = ok .record664 }
+  buffers = record { bytes = b; high = head-of keys m ok .flat; whole = ok .fits .array; record681 = ok .record681 }
 
   pending-within : Each (Within (length (m .array) / 72)) (pendingStores (m .control))
   pending-within =
       rw (array-cells (depth (m .control)) (length (m .array)) (ok .fits .array))
-      (within-pending (cells (depth (m .control))) (m .control) (ok .record664) (b .control) (head-of keys m ok .few)
-      (valid-parts (ok .right) .1))
+      (within-pending (cells (depth (m .control))) (m .control) (ok .record681) (b .control) (head-of keys m ok .few)
+      (valid-parts (ok .right) .cells-in))
 
   abbrev xs : List Store
   xs = pendingStores (m .control)

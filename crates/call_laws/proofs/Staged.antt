@@ -9,10 +9,11 @@ use Rattle.memory_map.specs.Map.{arrayLength}
 use Rattle.answer.specs.declared.Answer.the-variants.{Done, Cut}
 use Rattle.control.specs.Control.{Cell, controlLength, placeAt, places, inMap}
 use Rattle.batch.specs.Batch.{stagedFrom}
-use Rattle.journal.specs.Journal.{Store, Media, media, batchStores, Stored}
+use Rattle.journal.specs.Journal.{Store, Media, media, batchStores, turnStores, Stored}
 use Rattle.journal.proofs.Each.{Each}
 use Rattle.journal.proofs.Laws.{length-batch}
 use Rattle.journal.proofs.Steps.{Ran, staged-places, run-stored}
+use Rattle.journal.proofs.Turns.{RanTurn, turn-stored}
 use Rattle.calls.specs.Call.{buffers, ended, storing}
 use Rattle.call_laws.proofs.Loads.{Sound}
 use Rattle.call_laws.proofs.Kept.{wholes, in-map, array-cells}
@@ -43,6 +44,13 @@ module _ {h allowance : ℕ} {a k : List ℕ} {cs : List Cell} {k₁ : List ℕ}
   staged-run r after told ran =
       run-stored a k cs r allowance (s .control) (s .some) (s .few) (wholes h (s .flat) (s .sound)) after told
       (subst₂ (λ (x : List ℕ) (i : ℕ). Ran a x i r allowance after told) (s .cells) (s .number) ran)
+
+  -- as a batch of a turn, whose commit sets a section
+  pub staged-turn : (r : ℕ) (section : List ℕ) (after : Media) (told : ℕ) → RanTurn a k₁ n r section allowance after told
+      → Stored allowance (turnStores cs r section) (media a k) after told
+  staged-turn r section after told ran =
+      turn-stored a k cs r section allowance (s .control) (s .some) (s .few) (wholes h (s .flat) (s .sound)) after told
+      (subst₂ (λ (x : List ℕ) (i : ℕ). RanTurn a x i r section allowance after told) (s .cells) (s .number) ran)
 
   -- run with a root that is known: its 2n + 3 stores, or as many of them as the allowance goes
   module _ {r top : ℕ} (is : r ≡ top) {a' k' : List ℕ} {told : ℕ} (ran : Ran a k₁ n r allowance (media a' k') told) where

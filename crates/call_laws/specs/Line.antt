@@ -5,16 +5,10 @@ use mathlib.Core.List.{List, [], _∷_, _++_}
 use lib.Dec.{eqb}
 use Rattle.memory_map.specs.Map.{pageOf}
 use Rattle.counter.specs.Counter.{phaseOf}
-use Rattle.pad.specs.Pad.{pad, xorBytes}
 use Rattle.control.specs.Control.{Cell}
 use Rattle.calls.specs.Path.{nodeCell}
-use Rattle.calls.specs.Read.{sideBytes}
+use Rattle.calls.specs.Write.{lineCell}
 use Rattle.call_laws.specs.Walk.{pathCells}
-
--- the data cell of a text at a counter
-unfoldable pub lineCell : List ℕ → ℕ → List ℕ → ℕ → ℕ → Cell
-lineCell keys line text ma mi =
-    let b = xorBytes text (pad keys line ma mi) in record { number = line; bytes = b ++ sideBytes keys b line ma mi }
 
 -- the block b, of page p, joins the batch where its new minor is a multiple of 4
 unfoldable pub blockCells : ℕ → ℕ → ℕ → List ℕ → List Cell

@@ -9,7 +9,7 @@ use Rattle.memory_map.specs.Map.{lines, pageOf, arrayLength}
 use Rattle.slot_map.specs.Slots.{cacheLength}
 use Rattle.answer.specs.declared.Answer.the-variants.{Cut, Refused}
 use Rattle.answer.specs.declared.Answer.{Answer}
-use Rattle.control.specs.Control.{controlLength, depth, root, valid, pending}
+use Rattle.control.specs.Control.{controlLength, depth, root, isOpen, valid, pending}
 use Rattle.cache.specs.Cache.{formed}
 use Rattle.journal.specs.Journal.{Store, Media, storeAll, made, isCut}
 use Rattle.calls.specs.Path.{Loaded, loadPath}
@@ -64,9 +64,11 @@ entryTests keys line b m =
 unfoldable pub entryRefusal : List ℕ → ℕ → List ℕ → Module → ℕ
 entryRefusal keys line b m = judged (entryTests keys line b m)
 
--- last 23
+-- last 23 30
 unfoldable pub accessRefusal : List ℕ → ℕ → List ℕ → Module → ℕ
-accessRefusal keys line b m = judged (entryTests keys line b m ++ ((not (formed (depth (m .control)) (m .cache)), 23) ∷ []))
+accessRefusal keys line b m = judged
+    (entryTests keys line b m
+    ++ ((not (formed (depth (m .control)) (m .cache)), 23) ∷ (isOpen (m .control) (pageOf line), 30) ∷ []))
 
 -- a refusal with its places; a module as it was
 abbrev pub refuse : Module → ℕ → ℕ → ℕ → Called

@@ -1,4 +1,4 @@
--- Format: the tree of given counts, and what a formatted module is.
+-- Format: the tree of given majors and counts, and what a formatted module is.
 -- Assumes nothing.
 use Prim.Native.Nat.{ℕ, zero, suc, _*_}
 use mathlib.Core.Bool.{_&&_, not}
@@ -18,15 +18,15 @@ unfoldable pub countsFrom : (ℕ → ℕ) → ℕ → ℕ → List ℕ
 countsFrom f n zero = []
 countsFrom f n (suc k) = f n ∷ countsFrom f (suc n) k
 
--- the tree of counts: level 0 has blocks of major 0 with the counts as minors, a node the tags of its children
-unfoldable pub freshNode : List ℕ → (ℕ → ℕ) → ℕ → ℕ → List ℕ
-freshNode keys f zero i = counterBlock 0 (countsFrom f (64 * i) 64)
-freshNode keys f (suc l) i = childTags keys l (freshNode keys f l) i
+-- the tree of majors and counts: level 0 has a block for each page, with its counts as minors, a node the tags of its children
+unfoldable pub freshNode : List ℕ → (ℕ → ℕ) → (ℕ → ℕ) → ℕ → ℕ → List ℕ
+freshNode keys majors f zero i = counterBlock (majors i) (countsFrom f (64 * i) 64)
+freshNode keys majors f (suc l) i = childTags keys l (freshNode keys majors f l) i
 
--- the cells of n nodes of level l from node i on, each with zero side bytes
+-- the cells of n nodes of level l from node i on, of the tree of no turns and no writes, each with zero side bytes
 unfoldable pub nodeCells : List ℕ → ℕ → ℕ → ℕ → List ℕ
 nodeCells keys l i zero = []
-nodeCells keys l i (suc n) = freshNode keys (λ x. 0) l i ++ replicate 8 0 ++ nodeCells keys l (suc i) n
+nodeCells keys l i (suc n) = freshNode keys (λ p. 0) (λ n. 0) l i ++ replicate 8 0 ++ nodeCells keys l (suc i) n
 
 -- the cells of the levels below l, then rest
 unfoldable pub levelCells : List ℕ → ℕ → ℕ → List ℕ → List ℕ
@@ -36,8 +36,8 @@ levelCells keys h (suc l) rest = levelCells keys h l (nodeCells keys l 0 (nodes 
 unfoldable pub freshArray : List ℕ → ℕ → List ℕ
 freshArray keys h = replicate (72 * lines h) 0 ++ levelCells keys h (suc h) (replicate (72 * shadowCells h) 0)
 
-abbrev pub freshRoot : List ℕ → (ℕ → ℕ) → ℕ → ℕ
-freshRoot keys f h = nodeTag keys (freshNode keys f h 0) h 0
+abbrev pub freshRoot : List ℕ → (ℕ → ℕ) → (ℕ → ℕ) → ℕ → ℕ
+freshRoot keys majors f h = nodeTag keys (freshNode keys majors f h 0) h 0
 
 -- 1 2 3 4 5
 unfoldable pub formatRefusal : List ℕ → ℕ → Module → ℕ
@@ -51,7 +51,7 @@ formatted keys h =
       after = record {
         array = freshArray keys h;
         control = freshControl h
-            (freshRoot keys (λ x. 0) h);
+            (freshRoot keys (λ p. 0) (λ n. 0) h);
         cache = emptyCache h;
       };
     }

@@ -10,15 +10,16 @@ use lib.Dec.{ltb, eqb}
 use lib.ListN.{length, getD}
 use Rattle.memory_map.specs.Map.{pageOf, placeOf, lines, nodes, cellOf}
 use Rattle.memory_map.specs.Map.Item.{node}
-use Rattle.counter.specs.Counter.{minor}
+use Rattle.counter.specs.Counter.{minor, turnedMinor}
 use Rattle.answer.specs.declared.Answer.{Answer}
 use Rattle.answer.specs.declared.Answer.the-variants.{Done, Blank, Cut, Refused}
 use Rattle.answer.specs.Answer.{storesOf}
-use Rattle.control.specs.Control.{root}
+use Rattle.control.specs.Control.{root, isOpen}
 use Rattle.cache.specs.Cache.{cellContent, current}
 use Rattle.calls.specs.Call.{Module, Called}
 use Rattle.calls.specs.Read.{Reading, blankText, read}
 use Rattle.calls.specs.Write.{write}
+use Rattle.calls.specs.Turn.{turn, pagePath, beforeFinished}
 use Rattle.calls.specs.Recovery.{recover, total}
 use Rattle.calls.specs.Format.{format, freshNode, freshRoot, countsFrom}
 use Rattle.calls.specs.DirtyPages.{dirtyPages}
@@ -28,6 +29,7 @@ use Rattle.calls.specs.DirtyPages.{dirtyPages}
 pub data Event : Type 0 where
   reads : List ℕ → ℕ → ℕ → List ℕ → Event
   writes : List ℕ → ℕ → List ℕ → ℕ → Event
+  turns : List ℕ → ℕ → ℕ → Event
   recovers : List ℕ → ℕ → Event
   lists : List ℕ → Event
   formats : List ℕ → ℕ → Event
@@ -37,20 +39,21 @@ pub data Event : Type 0 where
 unfoldable pub step : Event → Module → Called
 step (reads keys line allowance out) m = (read keys line allowance out m) .called
 step (writes keys line text allowance) m = write keys line text allowance m
+step (turns keys p allowance) m = turn keys p allowance m
 step (recovers keys allowance) m = recover keys allowance m
 step (lists out) m = record { answer = (dirtyPages (m .control) (m .cache) out) .answer; after = m }
 step (formats keys h) m = format keys h m
 step (powerCut c) m = record { answer = Cut 0; after = record { array = m .array; control = m .control; cache = c } }
 
--- The book: for each line a count and a text, and the number of committed writes
+-- The book: for each line a count and a text, and for each page the number of its finished turns
 
 pub record Book : Type 0 where
   pub count : ℕ → ℕ
   pub text : ℕ → Option (List ℕ)
-  pub writes : ℕ
+  pub turns : ℕ → ℕ
 
 unfoldable pub emptyBook : Book
-emptyBook = record { count = λ n. 0; text = λ n. none; writes = 0 }
+emptyBook = record { count = λ n. 0; text = λ n. none; turns = λ p. 0 }
 
 -- f with v at n
 unfoldable pub changed : {A : Type 0} → (ℕ → A) → ℕ → A → ℕ → A
@@ -66,12 +69,30 @@ commits (Refused n k a b) full = false
 unfoldable pub entered : Bool → ℕ → List ℕ → Book → Book
 entered false n t b = b
 entered true n t b =
-    record { count = changed (b .count) n (suc (b .count n)); text = changed (b .text) n (some t); writes = suc (b .writes) }
+    record { count = changed (b .count) n (suc (b .count n)); text = changed (b .text) n (some t); turns = b .turns }
+
+-- a turn that is done is finished, and so is one cut after more stores than come before the commit of its last batch
+unfoldable pub finishes : Answer → ℕ → Bool
+finishes (Done k t) before = true
+finishes (Blank k) before = false
+finishes (Cut k) before = ltb before k
+finishes (Refused n k a b) before = false
+
+-- a finished turn sets the count of each written line of its page to 1; the texts stay
+unfoldable pub turnedCount : (ℕ → ℕ) → ℕ → ℕ → ℕ
+turnedCount f p n = cond (eqb (pageOf n) p) (turnedMinor (f n)) (f n)
+
+unfoldable pub turnEntered : Bool → ℕ → Book → Book
+turnEntered false p b = b
+turnEntered true p b =
+    record { count = turnedCount (b .count) p; text = b .text; turns = changed (b .turns) p (suc (b .turns p)) }
 
 unfoldable pub bookAfter : Event → Module → Book → Book
 bookAfter (reads keys line allowance out) m b = b
 bookAfter (writes keys line text allowance) m b =
     entered (commits ((write keys line text allowance m) .answer) (storesOf ((write keys line text (2 ^ 64 - 1) m) .answer))) line text b
+bookAfter (turns keys p allowance) m b =
+    turnEntered (finishes ((turn keys p allowance m) .answer) (beforeFinished keys p m (pagePath keys p m))) p b
 bookAfter (recovers keys allowance) m b = b
 bookAfter (lists out) m b = b
 bookAfter (formats keys h) m b = b
@@ -94,6 +115,8 @@ Admitted keys awaited m (reads given line allowance out) =
 Admitted keys awaited m (writes given line text allowance) =
     (awaited ≡ false) × Keyed keys given ((write given line text allowance m) .answer)
     × AreBytes given × (line < 2 ^ 64) × AreBytes text × (allowance < 2 ^ 64)
+Admitted keys awaited m (turns given p allowance) =
+    (awaited ≡ false) × Keyed keys given ((turn given p allowance m) .answer) × AreBytes given × (p < 2 ^ 64) × (allowance < 2 ^ 64)
 Admitted keys awaited m (recovers given allowance) =
     Keyed keys given ((recover given allowance m) .answer) × AreBytes given × (allowance < 2 ^ 64)
 Admitted keys awaited m (lists out) = (awaited ≡ false) × AreBytes out
@@ -140,10 +163,10 @@ Gives (some t) r = (r .called .answer ≡ Done (storesOf (r .called .answer)) 0)
 -- what holds after a done recovery that tells this sum
 pub record Restored (keys : List ℕ) (h : ℕ) (b : Book) (m : Module) (sum : ℕ) : Type 0 where
   pub counters : (n : ℕ) → n < lines h → counter h m n ≡ b .count n
-  pub allCounters : total (countsFrom (counter h m) 0 (lines h)) ≡ b .writes
-  pub tree : (l i : ℕ) → l ≤ h → i < nodes h l → current h (m .array) (m .cache) l i ≡ freshNode keys (b .count) l i
-  pub top : root (m .control) ≡ freshRoot keys (b .count) h
-  pub texts : (n allowance : ℕ) (out : List ℕ) → n < lines h → length out ≡ 64
+  pub allCounters : total (countsFrom (counter h m) 0 (lines h)) ≡ total (countsFrom (b .count) 0 (lines h))
+  pub tree : (l i : ℕ) → l ≤ h → i < nodes h l → current h (m .array) (m .cache) l i ≡ freshNode keys (b .turns) (b .count) l i
+  pub top : root (m .control) ≡ freshRoot keys (b .turns) (b .count) h
+  pub texts : (n allowance : ℕ) (out : List ℕ) → n < lines h → isOpen (m .control) (pageOf n) ≡ false → length out ≡ 64
       → NotCut ((read keys n allowance out m) .called .answer) → Gives (b .text n) (read keys n allowance out m)
   pub near : (n : ℕ) → n < lines h → (storedMinor h m n ≤ counter h m n) × (counter h m n ≤ storedMinor h m n + 3)
   pub told : sum ≡ total (countsFrom (λ n. counter h m n - storedMinor h m n) 0 (lines h))

@@ -2,6 +2,7 @@ pub mod Path
 pub mod Call
 pub mod Read
 pub mod Write
+pub mod Turn
 pub mod Recovery
 pub mod Format
 pub mod DirtyPages

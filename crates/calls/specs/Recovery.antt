@@ -12,7 +12,7 @@ use Rattle.slot_map.specs.Slots.{levelOf}
 use Rattle.counter.specs.Counter.{major, minors, counterBlock, forward, mayForward}
 use Rattle.tag.specs.Tag.{nodeTag}
 use Rattle.answer.specs.declared.Answer.the-variants.{Done, Cut, Refused}
-use Rattle.control.specs.Control.{depth, root}
+use Rattle.control.specs.Control.{depth, root, isOpen}
 use Rattle.cache.specs.Cache.{withSlot, emptyCache, cellContent, shadowOwners, badSlot, current}
 use Rattle.cache.specs.declared.Found.{Found}
 use Rattle.cache.specs.declared.Found.the-variants.{Nothing, At}
@@ -37,6 +37,10 @@ forwardFrom a n (s ∷ ss) =
     (elim (forwardFrom a (suc n) ss) [ none ↦ none | some ts ↦ some (forward s p ∷ ts) ])
     none
 
+-- the minors of page p brought forward; those of a page that is open stay as they are, and none of its lines is read
+unfoldable pub forwardPage : List ℕ → List ℕ → ℕ → List ℕ → Option (List ℕ)
+forwardPage k a p ms = cond (isOpen k p) (some ms) (forwardFrom a (64 * p) ms)
+
 unfoldable pub total : List ℕ → ℕ
 total [] = 0
 total (x ∷ xs) = x + total xs
@@ -46,25 +50,25 @@ pub data Rebuilt : Type 0 where
   rebuilt : List ℕ → ℕ → Rebuilt
   damaged : Rebuilt
 
--- the block of page p, of the array, brought forward into slot s of c
-unfoldable pub rebuildBlock : ℕ → List ℕ → List ℕ → ℕ → ℕ → ℕ → Rebuilt
-rebuildBlock h a c sum s p =
+-- the block of page p, of the array, brought forward into slot s of c; k is the control record
+unfoldable pub rebuildBlock : ℕ → List ℕ → List ℕ → List ℕ → ℕ → ℕ → ℕ → Rebuilt
+rebuildBlock h k a c sum s p =
     let b = cellContent a (cellOf h (node 0 p)) in
-    elim (forwardFrom a (64 * p) (minors b)) [
+    elim (forwardPage k a p (minors b)) [
       | none ↦ damaged
       | some ms ↦ rebuilt (withSlot c s (suc p) 1 (counterBlock (major b) ms)) (sum + (total ms - total (minors b)))
     ]
 
 -- slot s for the owner that the shadow lists there
-unfoldable pub rebuildSlot : ℕ → List ℕ → List ℕ → ℕ → ℕ → ℕ → Rebuilt
-rebuildSlot h a c sum s zero = rebuilt c sum
-rebuildSlot h a c sum s (suc p) = rebuildBlock h a c sum s p
+unfoldable pub rebuildSlot : ℕ → List ℕ → List ℕ → List ℕ → ℕ → ℕ → ℕ → Rebuilt
+rebuildSlot h k a c sum s zero = rebuilt c sum
+rebuildSlot h k a c sum s (suc p) = rebuildBlock h k a c sum s p
 
 -- counter slots from s on, for these owners
-unfoldable pub rebuildBlocks : ℕ → List ℕ → ℕ → List ℕ → List ℕ → ℕ → Rebuilt
-rebuildBlocks h a s [] c sum = rebuilt c sum
-rebuildBlocks h a s (o ∷ os) c sum =
-    elim (rebuildSlot h a c sum s o) [ damaged ↦ damaged | rebuilt d t ↦ rebuildBlocks h a (suc s) os d t ]
+unfoldable pub rebuildBlocks : ℕ → List ℕ → List ℕ → ℕ → List ℕ → List ℕ → ℕ → Rebuilt
+rebuildBlocks h k a s [] c sum = rebuilt c sum
+rebuildBlocks h k a s (o ∷ os) c sum =
+    elim (rebuildSlot h k a c sum s o) [ damaged ↦ damaged | rebuilt d t ↦ rebuildBlocks h k a (suc s) os d t ]
 
 -- a node from the tags of its children as rebuilt, else as in the array
 unfoldable pub rebuildNode : ℕ → List ℕ → List ℕ → List ℕ → ℕ → ℕ → List ℕ
@@ -97,7 +101,7 @@ unfoldable pub recoverShadow : List ℕ → ℕ → Module → List ℕ → Foun
 recoverShadow keys k m os (At s) = refuseAfter k m 27 s
 recoverShadow keys k m os Nothing =
     let h = depth (m .control) in
-    recoverRebuilt keys k m os (rebuildBlocks h (m .array) 0 (take 4 os) (emptyCache h) 0)
+    recoverRebuilt keys k m os (rebuildBlocks h (m .control) (m .array) 0 (take 4 os) (emptyCache h) 0)
 
 abbrev pub recoverMedia : List ℕ → ℕ → Module → Called
 recoverMedia keys k m =

@@ -26,11 +26,13 @@ newBlock c line = withMinor (pageBlock c line) (placeOf line) (newMinor c line)
 abbrev pub stopLoss : List ℕ → ℕ → Bool
 stopLoss c line = eqb (phaseOf (newMinor c line)) 0
 
-unfoldable pub dataCell : List ℕ → ℕ → List ℕ → List ℕ → Cell
-dataCell keys line text c =
-    let ma = major (pageBlock c line) in
-    let b = xorBytes text (pad keys line ma (newMinor c line)) in
-    record { number = line; bytes = b ++ sideBytes keys b line ma (newMinor c line) }
+-- the data cell of a text at a counter
+unfoldable pub lineCell : List ℕ → ℕ → List ℕ → ℕ → ℕ → Cell
+lineCell keys line text ma mi =
+    let b = xorBytes text (pad keys line ma mi) in record { number = line; bytes = b ++ sideBytes keys b line ma mi }
+
+abbrev pub dataCell : List ℕ → ℕ → List ℕ → List ℕ → Cell
+dataCell keys line text c = lineCell keys line text (major (pageBlock c line)) (newMinor c line)
 
 -- x is the batch of the loaded path
 unfoldable pub writeBatch : ℕ → List ℕ → ℕ → List ℕ → List ℕ → List Cell → List Cell

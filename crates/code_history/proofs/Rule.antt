@@ -36,6 +36,7 @@ use Rattle.code_history.proofs.Steps.{
   formatted,
   read,
   written,
+  turned,
   recovered,
   listed,
   power,
@@ -50,6 +51,7 @@ unfolding step
 step-defined (formatted c) = sym (c .contract)
 step-defined (read c) = ap (λ (r : Reading). r .called) (sym (c .contract))
 step-defined (written c) = sym (c .contract)
+step-defined (turned c) = sym (c .contract)
 step-defined (recovered c) = sym (c .contract)
 step-defined (listed array c) = ap (λ (l : Listing). record { answer = l .answer; after = listBefore array c }) (sym (c .contract))
 step-defined (power m cache) = refl
@@ -59,7 +61,7 @@ unfolding moduleAfter
 run-defined (none m) = refl
 run-defined (next {es = es} s r) = ap (λ (x : Called). moduleAfter (x .after) es) (step-defined s) ∙ run-defined r
 
--- in every run of the five functions from a format that is done, whose list of events is allowed: a recovery with the same keys is not
+-- in every run of the six functions from a format that is done, whose list of events is allowed: a recovery with the same keys is not
 -- refused, and one that is done restores what the book of the list up to it says
 pub code-history : (f : Formatted) → f .answer ≡ Done 0 0 → (m : Module) (es rest : List Event) → Run (formatAfter f) es m
     → (r : Recovered) → recoverBefore r ≡ m

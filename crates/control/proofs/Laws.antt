@@ -1,19 +1,21 @@
 -- Laws of the control record: its fields, the parts of its validity, its places one by one. Assumes nothing.
 use mathlib.Core.Path.{_≡_, refl, sym, ap, ap₂, _∙_, subst}
-use mathlib.Core.Bool.{Bool, true, false, _&&_, and-eq-true-iff}
+use mathlib.Core.Bool.{Bool, true, false, _&&_, _||_, not, and-eq-true-iff}
 use mathlib.Core.List.{List, [], _∷_, _++_}
 use Prim.Native.Nat.{ℕ, zero, suc, _+_, _-_, _*_, _≤_, _<_}
 use native.Mathlib.Nat.{add-zero, zero-add, add-assoc, suc-add, not-suc-le-zero, le-of-suc-le-suc}
 use native.Mathlib.Omega.{arith}
 use borrow.Author.Tests.{lt-ltb, le-ltb, le-leb, lt-leb, eq-eqb, ne-eqb, leb-true, ltb-true}
 use lib.Dec.{ltb, leb, eqb, lit<, lit≤}
-use lib.ListN.{length, getD, take, drop}
+use lib.ListN.{length, getD, set, take, drop, length-append}
 use lib.Seq.{take-take, drop-drop, getD-drop}
-use Rattle.words.specs.Bytes.{number, fromLe, part}
-use Rattle.words.proofs.Parts.{part-part}
-use Rattle.words.proofs.Puts.{getD-part}
-use Rattle.memory_map.specs.Map.{cells}
-use Rattle.control.specs.Control.{mark, depth, root, count, newRoot, Cell, queued, places, queue, inMap, validHead, valid}
+use Rattle.words.specs.Bytes.{number, fromLe, toLe, part, put}
+use Rattle.words.proofs.Digits.{length-digits}
+use Rattle.words.proofs.Parts.{part-part, length-put, put-one, put-three}
+use Rattle.words.proofs.Puts.{getD-part, put-comm}
+use Rattle.memory_map.specs.Map.{pages, cells}
+use Rattle.control.specs.Control.{controlLength, mark, depth, root, count, newRoot, Cell, queued, places, queue, inMap}
+use Rattle.control.specs.Control.{turnAt, turnCount, turnPage, turnMask, turnBytes, isOpen, otherOpen, validHead, validTurn, valid}
 
 pub depth-at : (k : List ℕ) → depth k ≡ getD k 5 0
 unfolding depth
@@ -231,19 +233,151 @@ module _ (k t : List ℕ) where
       (front 7 e 5 (lit< tt)) in
       ap₂ (λ (a b : Bool). a && b) (sym same ∙ and-eq-true-iff start (leb (count k) 8) .0 v .0) (le-leb (count t) 8 h)
 
+-- ---- the section of a turn
+
+pub turn-count-at : (k : List ℕ) → turnCount k ≡ getD k 664 0
+unfolding turnCount
+turn-count-at k = refl
+
+pub turn-page-at : (k : List ℕ) → turnPage k ≡ fromLe (part k 665 8)
+unfolding turnPage
+turn-page-at k = refl
+
+pub turn-mask-at : (k : List ℕ) → turnMask k ≡ fromLe (part k 673 8)
+unfolding turnMask
+turn-mask-at k = refl
+
+pub length-turn : (n p mask : ℕ) → length (turnBytes n p mask) ≡ 17
+length-turn n p mask =
+    ap suc (length-append (toLe 8 p) (toLe 8 mask)) ∙ omega (arith, length-digits 256 8 p, length-digits 256 8 mask)
+
+-- page and mask, then the count
+pub turn-put : (k : List ℕ) (n p mask : ℕ) → length k ≡ controlLength
+    → set (put (put k 665 (toLe 8 p)) 673 (toLe 8 mask)) 664 n ≡ put k turnAt (turnBytes n p mask)
+turn-put k n p mask size =
+    let page = length-digits 256 8 p in
+    let bits = length-digits 256 8 mask in
+    let first = length-put k 665 (toLe 8 p) (omega (arith, page, size)) in
+    let second = length-put (put k 665 (toLe 8 p)) 673 (toLe 8 mask) (omega (arith, bits, first, size)) in
+    sym (put-one (put (put k 665 (toLe 8 p)) 673 (toLe 8 mask)) 664 n (omega (arith, first, second, size)))
+    ∙ sym (put-comm (put k 665 (toLe 8 p)) 664 (n ∷ []) 673 (toLe 8 mask) (lit≤ tt) (omega (arith, bits, first, size)))
+    ∙ ap (λ (l : List ℕ). put l 673 (toLe 8 mask)) (sym (put-comm k 664 (n ∷ []) 665 (toLe 8 p) (lit≤ tt) (omega (arith, page, size))))
+    ∙ put-three k 664 (n ∷ []) (toLe 8 p) (toLe 8 mask) 665 673 refl (omega (arith, page)) (omega (arith, bits, size))
+
+-- no page is open; one is
+module _ (k : List ℕ) (p : ℕ) where
+  pub none-open : (getD k 664 0 ≡ 1 → ⊥) → (false ≡ isOpen k p) × (false ≡ otherOpen k p)
+  unfolding isOpen otherOpen turnCount
+  none-open e = (
+    sym (ap (λ (b : Bool). b && eqb (turnPage k) p) (ne-eqb (getD k 664 0) 1 e)),
+    sym
+        (ap (λ (b : Bool). b && not (eqb (turnPage k) p)) (ne-eqb (getD k 664 0) 1 e)),
+  )
+
+  pub one-open : getD k 664 0 ≡ 1 → (eqb (fromLe (part k 665 8)) p ≡ isOpen k p) × (not (eqb (fromLe (part k 665 8)) p) ≡ otherOpen k p)
+  unfolding isOpen otherOpen turnCount turnPage
+  one-open e = (
+    sym (ap (λ (b : Bool). b && eqb (fromLe (part k 665 8)) p) (eq-eqb (getD k 664 0) 1 e)),
+    sym (ap (λ (b : Bool). b && not (eqb (fromLe (part k 665 8)) p)) (eq-eqb (getD k 664 0) 1 e)),
+  )
+
+-- its validity
+module _ (k : List ℕ) where
+  pub turn-none : getD k 664 0 ≡ 0 → true ≡ validTurn k
+  unfolding validTurn turnCount
+  turn-none e = sym (ap (λ (x : Bool). x || (eqb (getD k 664 0) 1 && ltb (turnPage k) (pages (depth k)) && ltb 0 (turnMask k)))
+      (eq-eqb (getD k 664 0) 0 e))
+
+  module _ (some : getD k 664 0 ≡ 0 → ⊥) where
+    some-turn : validTurn k ≡ eqb (getD k 664 0) 1 && ltb (turnPage k) (pages (depth k)) && ltb 0 (turnMask k)
+    unfolding validTurn turnCount
+    some-turn = ap (λ (x : Bool). x || (eqb (getD k 664 0) 1 && ltb (turnPage k) (pages (depth k)) && ltb 0 (turnMask k)))
+        (ne-eqb (getD k 664 0) 0 some)
+
+    pub turn-many : (getD k 664 0 ≡ 1 → ⊥) → false ≡ validTurn k
+    turn-many e =
+        sym (some-turn ∙ ap (λ (x : Bool). x && ltb (turnPage k) (pages (depth k)) && ltb 0 (turnMask k)) (ne-eqb (getD k 664 0) 1 e))
+
+    module _ (one : getD k 664 0 ≡ 1) where
+      pub turn-past : pages (depth k) ≤ turnPage k → false ≡ validTurn k
+      turn-past p =
+          sym (some-turn ∙ ap₂ (λ (x y : Bool). x && y && ltb 0 (turnMask k)) (eq-eqb (getD k 664 0) 1 one)
+          (le-ltb (turnPage k) (pages (depth k)) p))
+
+      pub turn-in : turnPage k < pages (depth k) → ltb 0 (turnMask k) ≡ validTurn k
+      turn-in p =
+          sym (some-turn ∙ ap₂ (λ (x y : Bool). x && y && ltb 0 (turnMask k)) (eq-eqb (getD k 664 0) 1 one)
+          (lt-ltb (turnPage k) (pages (depth k)) p))
+
+-- what it tells of a page that is open
+pub record Turn (k : List ℕ) : Type 0 where
+  pub page : turnPage k < pages (depth k)
+  pub lines : 0 < turnMask k
+
+pub open-turn : {k : List ℕ} → validTurn k ≡ true → turnCount k ≡ 1 → Turn k
+unfolding validTurn
+open-turn {k} e o =
+    let one = ap (λ (n : ℕ). eqb n 0 || (eqb n 1 && ltb (turnPage k) (pages (depth k)) && ltb 0 (turnMask k))) (sym o) ∙ e in
+    let both = and-eq-true-iff (ltb (turnPage k) (pages (depth k))) (ltb 0 (turnMask k)) .0 one in
+    record {
+      page = ltb-true (turnPage k) (pages (depth k)) (both .0);
+      lines = ltb-true 0 (turnMask k) (both .1);
+    }
+
+-- records of the same section
+module _ (k t : List ℕ) (e : drop 664 k ≡ drop 664 t) where
+  pub same-turn-count : turnCount k ≡ turnCount t
+  unfolding turnCount
+  same-turn-count = sym (getD-drop 664 k 0 0) ∙ ap (λ (l : List ℕ). getD l 0 0) e ∙ getD-drop 664 t 0 0
+
+  pub same-turn-page : turnPage k ≡ turnPage t
+  unfolding turnPage
+  same-turn-page = ap (λ (l : List ℕ). fromLe (take 8 l)) (sym (drop-drop 1 664 k) ∙ ap (drop 1) e ∙ drop-drop 1 664 t)
+
+  pub same-turn-mask : turnMask k ≡ turnMask t
+  unfolding turnMask
+  same-turn-mask = ap (λ (l : List ℕ). fromLe (take 8 l)) (sym (drop-drop 9 664 k) ∙ ap (drop 9) e ∙ drop-drop 9 664 t)
+
+  pub same-open : (p : ℕ) → isOpen k p ≡ isOpen t p
+  unfolding isOpen
+  same-open p = ap₂ (λ (n q : ℕ). eqb n 1 && eqb q p) same-turn-count same-turn-page
+
+  pub same-turn : depth k ≡ depth t → validTurn k ≡ validTurn t
+  unfolding validTurn
+  same-turn d =
+      ap₂ (λ (n h : ℕ). eqb n 0 || (eqb n 1 && ltb (turnPage k) (pages h) && ltb 0 (turnMask k))) same-turn-count d
+      ∙ ap₂ (λ (q x : ℕ). eqb (turnCount t) 0 || (eqb (turnCount t) 1 && ltb q (pages (depth t)) && ltb 0 x)) same-turn-page same-turn-mask
+
 -- ---- validity
 
-pub wrong-head : (k : List ℕ) → validHead k ≡ false → false ≡ valid k
-unfolding valid
-wrong-head k e = sym (ap (λ (b : Bool). b && inMap (cells (depth k)) (queue k)) e)
+module _ (k : List ℕ) where
+  pub wrong-head : validHead k ≡ false → false ≡ valid k
+  unfolding valid
+  wrong-head e = sym (ap (λ (b : Bool). b && inMap (cells (depth k)) (queue k) && validTurn k) e)
 
-pub valid-cells : (k : List ℕ) → validHead k ≡ true → inMap (cells (depth k)) (places k 24 (count k)) ≡ valid k
-unfolding valid queue
-valid-cells k e = sym (ap (λ (b : Bool). b && inMap (cells (depth k)) (queue k)) e)
+  module _ (e : validHead k ≡ true) where
+    pub wrong-cells : inMap (cells (depth k)) (places k 24 (count k)) ≡ false → false ≡ valid k
+    unfolding valid queue
+    wrong-cells p = sym (ap₂ (λ (a b : Bool). a && b && validTurn k) e p)
+
+    pub right-cells : inMap (cells (depth k)) (places k 24 (count k)) ≡ true → validTurn k ≡ valid k
+    unfolding valid queue
+    right-cells p = sym (ap₂ (λ (a b : Bool). a && b && validTurn k) e p)
 
 -- what validity tells
-pub valid-parts : {k : List ℕ} → valid k ≡ true → Head k × (inMap (cells (depth k)) (queue k) ≡ true)
+pub record Valid (k : List ℕ) : Type 0 where
+  pub start : validHead k ≡ true
+  pub head : Head k
+  pub cells-in : inMap (cells (depth k)) (queue k) ≡ true
+  pub turn : validTurn k ≡ true
+
+pub valid-parts : {k : List ℕ} → valid k ≡ true → Valid k
 unfolding valid
 valid-parts {k} e =
-    let both = and-eq-true-iff (validHead k) (inMap (cells (depth k)) (queue k)) .0 e in
-    (right-head (both .0), both .1)
+    let both = and-eq-true-iff (validHead k && inMap (cells (depth k)) (queue k)) (validTurn k) .0 e in
+    let first = and-eq-true-iff (validHead k) (inMap (cells (depth k)) (queue k)) .0 (both .0) in
+    record { start = first .0; head = right-head (first .0); cells-in = first .1; turn = both .1 }
+
+pub parts-valid : (k : List ℕ) → validHead k ≡ true → inMap (cells (depth k)) (queue k) ≡ true → validTurn k ≡ true → valid k ≡ true
+unfolding valid
+parts-valid k a b c = ap₂ (λ (x y : Bool). x && y && validTurn k) a b ∙ c

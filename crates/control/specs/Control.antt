@@ -1,15 +1,15 @@
--- The persistent control record (the paper's keep): mark, depth, root, and the queue of a pending batch.
+-- The persistent control record (the paper's keep): mark, depth, root, the queue of a pending batch, and the section of an open page.
 -- Assumes nothing.
 use Prim.Native.Nat.{ℕ, zero, suc, _+_, _*_}
-use mathlib.Core.Bool.{Bool, true, _&&_}
+use mathlib.Core.Bool.{Bool, true, _&&_, _||_, not}
 use mathlib.Core.List.{List, [], _∷_, _++_}
 use lib.Dec.{ltb, leb, eqb}
 use lib.ListN.{getD, replicate}
 use Rattle.words.specs.Bytes.{fromLe, toLe, part}
-use Rattle.memory_map.specs.Map.{cells}
+use Rattle.memory_map.specs.Map.{pages, cells}
 
 abbrev pub controlLength : ℕ
-controlLength = 664
+controlLength = 681
 
 -- `PIGK`, as a number
 abbrev pub mark : ℕ
@@ -61,7 +61,32 @@ placeAt j = 24 + 80 * j
 unfoldable pub queue : List ℕ → List Cell
 queue k = places k (placeAt 0) (count k)
 
--- Validity: mark, counts and depth are right, and no pending cell number is past the map
+-- The section of a turn after the queue: count 0 or 1; with count 1 a page, which is open, and the mask of its lines still to turn
+
+abbrev pub turnAt : ℕ
+turnAt = 664
+
+unfoldable pub turnCount : List ℕ → ℕ
+turnCount k = getD k turnAt 0
+
+unfoldable pub turnPage : List ℕ → ℕ
+turnPage k = fromLe (part k (turnAt + 1) 8)
+
+unfoldable pub turnMask : List ℕ → ℕ
+turnMask k = fromLe (part k (turnAt + 9) 8)
+
+-- the section's bytes
+abbrev pub turnBytes : ℕ → ℕ → ℕ → List ℕ
+turnBytes n p mask = n ∷ toLe 8 p ++ toLe 8 mask
+
+-- page p is open; another page is
+unfoldable pub isOpen : List ℕ → ℕ → Bool
+isOpen k p = eqb (turnCount k) 1 && eqb (turnPage k) p
+
+unfoldable pub otherOpen : List ℕ → ℕ → Bool
+otherOpen k p = eqb (turnCount k) 1 && not (eqb (turnPage k) p)
+
+-- Validity: mark, counts and depth are right, no pending cell number is past the map, and an open page is in the map and has a line to turn
 
 -- each cell number is below a bound
 unfoldable pub inMap : ℕ → List Cell → Bool
@@ -73,12 +98,15 @@ validHead k =
     eqb (fromLe (part k 0 4)) mark && eqb (getD k 4 0) 1 && eqb (getD k 6 0) 1
     && leb 1 (depth k) && leb (depth k) 3 && leb (count k) 8
 
+unfoldable pub validTurn : List ℕ → Bool
+validTurn k = eqb (turnCount k) 0 || (eqb (turnCount k) 1 && ltb (turnPage k) (pages (depth k)) && ltb 0 (turnMask k))
+
 unfoldable pub valid : List ℕ → Bool
-valid k = validHead k && inMap (cells (depth k)) (queue k)
+valid k = validHead k && inMap (cells (depth k)) (queue k) && validTurn k
 
 abbrev pub pending : List ℕ → Bool
 pending k = ltb 0 (count k)
 
 -- what format leaves
 unfoldable pub freshControl : ℕ → ℕ → List ℕ
-freshControl h r = toLe 4 mark ++ (1 ∷ h ∷ 1 ∷ []) ++ toLe 8 r ++ replicate 649 0
+freshControl h r = toLe 4 mark ++ (1 ∷ h ∷ 1 ∷ []) ++ toLe 8 r ++ replicate 666 0

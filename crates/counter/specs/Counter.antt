@@ -1,8 +1,8 @@
 -- The counter block of a page: a major of 8 bytes, then 64 minors of 7 bits. Assumes nothing.
-use Prim.Native.Nat.{ℕ, _+_, _-_, _%_}
-use mathlib.Core.Bool.{Bool, _&&_}
-use mathlib.Core.List.{List, _++_}
-use lib.Dec.{leb}
+use Prim.Native.Nat.{ℕ, suc, _+_, _-_, _%_}
+use mathlib.Core.Bool.{Bool, _&&_, cond}
+use mathlib.Core.List.{List, [], _∷_, _++_, map}
+use lib.Dec.{eqb, leb}
 use lib.ListN.{getD, set, take, drop}
 use Rattle.words.specs.Bytes.{number, digits, fromLe, toLe}
 
@@ -35,3 +35,19 @@ forward s p = s + (p + (4 - s % 4)) % 4
 -- whether it may be: a phase is at most 3, a minor at most 127
 unfoldable pub mayForward : ℕ → ℕ → Bool
 mayForward s p = leb p 3 && leb (forward s p) 127
+
+-- the places of written lines from place j on: those whose minor is not 0
+unfoldable pub writtenFrom : ℕ → List ℕ → List ℕ
+writtenFrom j [] = []
+writtenFrom j (s ∷ ss) = let later = writtenFrom (suc j) ss in cond (eqb s 0) later (j ∷ later)
+
+abbrev pub written : List ℕ → List ℕ
+written b = writtenFrom 0 (minors b)
+
+-- the minor of a line after a turn of its page: 1, or 0 where it is not written
+unfoldable pub turnedMinor : ℕ → ℕ
+turnedMinor s = cond (eqb s 0) 0 1
+
+-- the block after a turn: the next major, and each minor turned
+unfoldable pub turned : List ℕ → List ℕ
+turned b = counterBlock (suc (major b)) (map turnedMinor (minors b))

@@ -79,7 +79,7 @@ accepted control cache out e =
     record {
       sized = omega (arith, alike (length cache) (cacheLength h) (c .test));
       room = alike (length out) 32 (d .test);
-      flat = valid-parts (not-false (valid control) (b .test)) .0 .flat;
+      flat = valid-parts (not-false (valid control) (b .test)) .head .flat;
       formed = f;
       clean = λ s p. f .clean s (omega arith);
     }

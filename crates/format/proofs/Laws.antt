@@ -25,14 +25,14 @@ use Rattle.call_laws.proofs.FreshCells.{none, node-stored}
 -- ---- the control record
 
 -- the mark, three bytes and the root over zeros
-written : (h r : ℕ) → put (set (set (set (put (replicate 664 0) 0 (toLe 4 mark)) 4 1) 5 h) 6 1) 7 (toLe 8 r) ≡ freshControl h r
+written : (h r : ℕ) → put (set (set (set (put (replicate 681 0) 0 (toLe 4 mark)) 4 1) 5 h) 6 1) 7 (toLe 8 r) ≡ freshControl h r
 unfolding freshControl digits
 written h r = refl
 
-pub control-written : (k : List ℕ) (h r : ℕ) {z s after : List ℕ} {x : ℕ} → length k ≡ controlLength → z ≡ put k 0 (replicate 664 0)
+pub control-written : (k : List ℕ) (h r : ℕ) {z s after : List ℕ} {x : ℕ} → length k ≡ controlLength → z ≡ put k 0 (replicate 681 0)
     → x ≡ mark → s ≡ put z 0 (toLe 4 x) → after ≡ put (set (set (set s 4 1) 5 h) 6 1) 7 (toLe 8 r) → after ≡ freshControl h r
 control-written k h r {z} {s} {after} {x} l e f g w =
-    let zeros : List ℕ = replicate 664 0 in
+    let zeros : List ℕ = replicate 681 0 in
     let marked : s ≡ put zeros 0 (toLe 4 mark) =
     g ∙ ap₂ {C = List ℕ} (λ (a : List ℕ) (n : ℕ). put a 0 (toLe 4 n)) (e ∙ put-all k zeros (sym l)) f in
     w ∙ ap (λ (a : List ℕ). put (set (set (set a 4 1) 5 h) 6 1) 7 (toLe 8 r)) marked ∙ written h r
@@ -75,12 +75,12 @@ module _ (keys : List ℕ) (h : ℕ) (m : Module) where
   refused (suc n) e p = rw (format, ← e)
 
   pub done : 0 ≡ formatRefusal keys h m → {a k c : List ℕ} {r : ℕ} → a ≡ freshArray keys h → k ≡ freshControl h r
-      → r ≡ freshRoot keys none h → c ≡ replicate (cacheLength h) 0 → ended (Done 0 0) a k c ≡ format keys h m
+      → r ≡ freshRoot keys none none h → c ≡ replicate (cacheLength h) 0 → ended (Done 0 0) a k c ≡ format keys h m
   unfolding format formatted
   done z {a} {k} {c} {r} ea ek er ec = rw (format, ← z) (rw (ea, ek, er, ec))
 
 pub root-fresh : (keys : List ℕ) (h : ℕ) {a b : List ℕ} {n r : ℕ} → a ≡ freshArray keys h → n ≡ cellOf h (node h 0)
-    → b ≡ cellContent a n → r ≡ nodeTag keys b h 0 → r ≡ freshRoot keys none h
+    → b ≡ cellContent a n → r ≡ nodeTag keys b h 0 → r ≡ freshRoot keys none none h
 root-fresh keys h ea en eb er =
     er ∙ ap (λ (x : List ℕ). nodeTag keys x h 0)
     (eb ∙ ap₂ {C = List ℕ} cellContent ea en ∙ node-stored keys h h 0 (le-refl h) (nodes-some h h))

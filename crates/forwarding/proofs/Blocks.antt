@@ -1,5 +1,6 @@
 -- Counter slots rebuilt one by one. Assumes nothing.
 use mathlib.Core.Path.{_≡_, refl, sym, ap, ap₂, _∙_}
+use mathlib.Core.Bool.{cond}
 use mathlib.Core.List.{List, _∷_}
 use mathlib.Core.Option.{Option, none, some}
 use Prim.Native.Nat.{ℕ, zero, suc, _+_, _-_, _*_, _≤_, _<_}
@@ -15,12 +16,13 @@ use Rattle.slot_map.specs.Slots.{levelOf, cacheLength}
 use Rattle.slot_map.proofs.Laws.{belongs-node, level-within}
 use Rattle.counter.specs.Counter.{major, minors, counterBlock}
 use Rattle.counter.proofs.Laws.{length-counterBlock}
+use Rattle.control.specs.Control.{isOpen}
 use Rattle.cache.specs.Cache.{withSlot, cellContent}
 use Rattle.cache.proofs.Owners.{rest, none as past}
 use Rattle.node.proofs.Laws.{slot-put, cell-room}
-use Rattle.calls.specs.Recovery.{Rebuilt, rebuilt, damaged, forwardFrom, phaseByte, total, rebuildBlock, rebuildSlot, rebuildBlocks}
+use Rattle.calls.specs.Recovery.{Rebuilt, rebuilt, damaged, forwardPage, phaseByte, total, rebuildBlock, rebuildSlot, rebuildBlocks}
 use Rattle.forwarding.specs.Rebuild.{Placed}
-use Rattle.forwarding.proofs.Forward.{Forwarding, forwarding-fails, forwarding-all, forwarding-sum, forwarded}
+use Rattle.forwarding.proofs.Forward.{Forwarding, forwarding-sum, forwarded, page-fails, page-all}
 
 -- the owners from slot s on, of n
 abbrev pub left : List ℕ → ℕ → ℕ → List ℕ
@@ -56,17 +58,17 @@ page-lines h a p size m = omega (arith, cell-room h a 0 p size m, node-cell h 0 
 pub filled : (o : ℕ) → (o ≡ 0 → ⊥) → o ≡ suc (o - 1)
 filled o p = omega arith
 
-module _ (h : ℕ) (a os : List ℕ) where
+module _ (h : ℕ) (k a os : List ℕ) where
   abbrev owner : ℕ → ℕ
   owner s = getD os s 0
 
   -- what is left to do after a slot
   abbrev onward : ℕ → List ℕ → Rebuilt → Rebuilt
-  onward s os r = elim r as (λ z. Rebuilt) [ damaged ↦ damaged | rebuilt d t ↦ rebuildBlocks h a s os d t ]
+  onward s os r = elim r as (λ z. Rebuilt) [ damaged ↦ damaged | rebuilt d t ↦ rebuildBlocks h k a s os d t ]
 
   -- and from slot s on
   abbrev pub blocksFrom : ℕ → List ℕ → ℕ → Rebuilt
-  blocksFrom s c sum = rebuildBlocks h a s (left os 4 s) c sum
+  blocksFrom s c sum = rebuildBlocks h k a s (left os 4 s) c sum
 
   -- the counter slots before s are rebuilt, from the cache first: c with what is told so far
   pub record Rebuilding (first c : List ℕ) (sum s : ℕ) : Type 0 where
@@ -90,47 +92,47 @@ module _ (h : ℕ) (a os : List ℕ) where
 
   module _ (size : length os ≡ 10) where
     module _ (s : ℕ) (p : s < 4) (c : List ℕ) (sum : ℕ) where
-      slot-then : {r : Rebuilt} → rebuildSlot h a c sum s (owner s) ≡ r → blocksFrom s c sum ≡ onward (suc s) (left os 4 (s + 1)) r
+      slot-then : {r : Rebuilt} → rebuildSlot h k a c sum s (owner s) ≡ r → blocksFrom s c sum ≡ onward (suc s) (left os 4 (s + 1)) r
       unfolding rebuildBlocks
       slot-then {r} e =
-          ap (λ (l : List ℕ). rebuildBlocks h a s l c sum) (left-next os 4 s p (omega arith))
+          ap (λ (l : List ℕ). rebuildBlocks h k a s l c sum) (left-next os 4 s p (omega arith))
           ∙ ap (onward (suc s) (left os 4 (s + 1))) e
 
-      slot-first : {d : List ℕ} {t : ℕ} → rebuildSlot h a c sum s (owner s) ≡ rebuilt d t → blocksFrom s c sum ≡ blocksFrom (s + 1) d t
-      slot-first {d} {t} e = slot-then e ∙ ap (λ (k : ℕ). rebuildBlocks h a k (left os 4 (s + 1)) d t) (sym (add-one s))
+      slot-first : {d : List ℕ} {t : ℕ} → rebuildSlot h k a c sum s (owner s) ≡ rebuilt d t → blocksFrom s c sum ≡ blocksFrom (s + 1) d t
+      slot-first {d} {t} e = slot-then e ∙ ap (λ (i : ℕ). rebuildBlocks h k a i (left os 4 (s + 1)) d t) (sym (add-one s))
 
-      slot-ends : rebuildSlot h a c sum s (owner s) ≡ damaged → blocksFrom s c sum ≡ damaged
+      slot-ends : rebuildSlot h k a c sum s (owner s) ≡ damaged → blocksFrom s c sum ≡ damaged
       slot-ends e = slot-then e
 
       pub blocks-empty : owner s ≡ 0 → blocksFrom s c sum ≡ blocksFrom (s + 1) c sum
       unfolding rebuildSlot
-      blocks-empty e = slot-first (ap (rebuildSlot h a c sum s) e)
+      blocks-empty e = slot-first (ap (rebuildSlot h k a c sum s) e)
 
       -- a filled slot: the owner's block b, and the minors ms of this
       module _ (some· : owner s ≡ 0 → ⊥) {b ms : List ℕ} (u : b ≡ cellContent a (cellOf h (node 0 (owner s - 1))))
           (w : ms ≡ minors b) where
-        block : rebuildSlot h a c sum s (owner s) ≡ rebuildBlock h a c sum s (owner s - 1)
+        block : rebuildSlot h k a c sum s (owner s) ≡ rebuildBlock h k a c sum s (owner s - 1)
         unfolding rebuildSlot
-        block = ap (rebuildSlot h a c sum s) (filled (owner s) some·)
+        block = ap (rebuildSlot h k a c sum s) (filled (owner s) some·)
 
         as-minors : ms ≡ minors (cellContent a (cellOf h (node 0 (owner s - 1))))
         as-minors = w ∙ ap minors u
 
-        as-forward : {r : Option (List ℕ)} → forwardFrom a (64 * (owner s - 1)) ms ≡ r
-            → forwardFrom a (64 * (owner s - 1)) (minors (cellContent a (cellOf h (node 0 (owner s - 1))))) ≡ r
-        as-forward f = ap (forwardFrom a (64 * (owner s - 1))) (sym as-minors) ∙ f
+        as-forward : {r : Option (List ℕ)} → forwardPage k a (owner s - 1) ms ≡ r
+            → forwardPage k a (owner s - 1) (minors (cellContent a (cellOf h (node 0 (owner s - 1))))) ≡ r
+        as-forward f = ap (forwardPage k a (owner s - 1)) (sym as-minors) ∙ f
 
-        blocks-damaged : forwardFrom a (64 * (owner s - 1)) ms ≡ none → blocksFrom s c sum ≡ damaged
+        blocks-damaged : forwardPage k a (owner s - 1) ms ≡ none → blocksFrom s c sum ≡ damaged
         unfolding rebuildBlock
         blocks-damaged f = slot-ends (block ∙ rw (rebuildBlock, as-forward f))
 
-        blocks-next : {cur d : List ℕ} {t ma : ℕ} → forwardFrom a (64 * (owner s - 1)) ms ≡ some cur → t ≡ sum + (total cur - total ms)
+        blocks-next : {cur d : List ℕ} {t ma : ℕ} → forwardPage k a (owner s - 1) ms ≡ some cur → t ≡ sum + (total cur - total ms)
             → ma ≡ major b → d ≡ withSlot c s (owner s) 1 (counterBlock ma cur) → blocksFrom s c sum ≡ blocksFrom (s + 1) d t
         unfolding rebuildBlock
         blocks-next {cur} {d} {t} {ma} f g m z =
             let cell = cellContent a (cellOf h (node 0 (owner s - 1))) in
             let slot : withSlot c s (suc (owner s - 1)) 1 (counterBlock (major cell) cur) ≡ d =
-            ap₂ {C = List ℕ} (λ (k i : ℕ). withSlot c s k 1 (counterBlock i cur)) (sym (filled (owner s) some·)) (sym (m ∙ ap major u))
+            ap₂ {C = List ℕ} (λ (o i : ℕ). withSlot c s o 1 (counterBlock i cur)) (sym (filled (owner s) some·)) (sym (m ∙ ap major u))
             ∙ sym z in
             let told : sum + (total cur - total (minors cell)) ≡ t =
             ap (λ (x : List ℕ). sum + (total cur - total x)) (sym as-minors) ∙ sym g in
@@ -141,22 +143,24 @@ module _ (h : ℕ) (a os : List ℕ) where
       rebuilding-empty e =
           record { most = omega arith; few = omega (arith, r .few); full = r .full; rest = r .rest ∙ blocks-empty s p c sum e }
 
-      -- the owner's block b lies in cell n, and its minors ms are brought forward in cur
-      module _ (some· : owner s ≡ 0 → ⊥) {n : ℕ} {b ms cur : List ℕ} {j t : ℕ} (cell : n ≡ cellOf h (node 0 (owner s - 1)))
-          (block : b ≡ cellContent a n) (unpacked : ms ≡ minors b) (f : Forwarding a (64 * (owner s - 1)) ms sum cur j t) where
-        pub rebuilding-fails : j < 64 → {v : ℕ} → v ≡ forwarded (getD cur j 0) (phaseByte a (64 * (owner s - 1) + j)) → 128 ≤ v
+      -- the owner's block b lies in cell i, and its minors ms are brought forward in cur
+      module _ (some· : owner s ≡ 0 → ⊥) {i : ℕ} {b ms cur : List ℕ} {j t : ℕ} (cell : i ≡ cellOf h (node 0 (owner s - 1)))
+          (block : b ≡ cellContent a i) (unpacked : ms ≡ minors b) (f : Forwarding a (64 * (owner s - 1)) ms sum cur j t) where
+        pub rebuilding-fails : {n : ℕ} → n ≡ cond (isOpen k (owner s - 1)) 0 64 → j < n → {v : ℕ}
+            → v ≡ forwarded (getD cur j 0) (phaseByte a (64 * (owner s - 1) + j)) → 128 ≤ v
             → damaged ≡ blocksFrom 0 first 0
-        rebuilding-fails q e z =
+        rebuilding-fails bound q e z =
             sym (r .rest ∙ blocks-damaged s p c sum some· (block ∙ ap (cellContent a) cell) unpacked
-            (forwarding-fails a (64 * (owner s - 1)) ms sum f q e z))
+            (page-fails k a (owner s - 1) ms sum f bound q e z))
 
-        pub rebuilding-next : j ≤ 64 → 64 ≤ j → {ma : ℕ} {d : List ℕ} → ma ≡ major b
+        pub rebuilding-next : {n : ℕ} → n ≡ cond (isOpen k (owner s - 1)) 0 64 → j ≤ n → n ≤ j → j ≤ 64 → {ma : ℕ} {d : List ℕ}
+            → ma ≡ major b
             → d ≡ withSlot c s (owner s) 1 (counterBlock ma cur) → length d ≡ length c → Rebuilding first d t (s + 1)
-        rebuilding-next q all m e l =
+        rebuilding-next bound q all most m e l =
             record {
               most = omega arith;
               few = omega (arith, r .few, f .least);
               full = l ∙ r .full;
               rest = r .rest ∙ blocks-next s p c sum some· (block ∙ ap (cellContent a) cell) unpacked
-                  (forwarding-all a (64 * (owner s - 1)) ms sum f all) (forwarding-sum a (64 * (owner s - 1)) ms sum f) m e;
+                  (page-all k a (owner s - 1) ms sum f bound q all) (forwarding-sum a (64 * (owner s - 1)) ms sum f) m e;
             }

@@ -14,7 +14,8 @@ use borrow.Author.Tests.{leb-true, le-leb, lt-leb}
 use Rattle.words.proofs.Digits.{Below, below-set}
 use Rattle.counter.specs.Counter.{forward, mayForward}
 use Rattle.counter.proofs.Laws.{forward-ge, forward-le}
-use Rattle.calls.specs.Recovery.{forwardFrom, phaseByte, total}
+use Rattle.control.specs.Control.{isOpen}
+use Rattle.calls.specs.Recovery.{forwardFrom, forwardPage, phaseByte, total}
 
 -- a minor brought forward, 255 where it may not be
 abbrev pub forwarded : ℕ → ℕ → ℕ
@@ -100,6 +101,7 @@ pub record Forwarding (a : List ℕ) (n : ℕ) (ms : List ℕ) (first : ℕ) (cu
   pub told : sum + total ms ≡ first + total cur
   pub grown : first ≤ sum
   pub least : sum ≤ first + 3 * j
+  pub begun : j ≡ 0 → cur ≡ ms
 
 module _ (a : List ℕ) (n : ℕ) (ms : List ℕ) (first : ℕ) where
   pub forwarding-none : length ms ≡ 64 → Below 128 ms → Forwarding a n ms first ms 0 first
@@ -111,6 +113,7 @@ module _ (a : List ℕ) (n : ℕ) (ms : List ℕ) (first : ℕ) where
         told = refl;
         grown = le-refl first;
         least = omega arith;
+        begun = λ e. refl;
       }
 
   module _ {cur : List ℕ} {j sum : ℕ} (f : Forwarding a n ms first cur j sum) (q : j < 64) {v : ℕ}
@@ -159,6 +162,7 @@ module _ (a : List ℕ) (n : ℕ) (ms : List ℕ) (first : ℕ) where
             told = omega (arith, f .told, total-set cur j v room, forwarded-ge);
             grown = omega (arith, f .grown);
             least = omega (arith, f .least, forwarded-le);
+            begun = λ e. absurd (omega arith);
           }
 
   -- all of them
@@ -172,3 +176,27 @@ module _ (a : List ℕ) (n : ℕ) (ms : List ℕ) (first : ℕ) where
 
   pub forwarding-sum : {cur : List ℕ} {j sum : ℕ} → Forwarding a n ms first cur j sum → sum ≡ first + (total cur - total ms)
   forwarding-sum f = omega (arith, f .told, f .grown)
+
+-- ---- a page, of which n lines are brought forward: none where it is open
+
+pub few-lines : (b : Bool) (n : ℕ) → n ≡ cond b 0 64 → n ≤ 64
+few-lines true n e = omega arith
+few-lines false n e = omega arith
+
+module _ (k a : List ℕ) (p : ℕ) (ms : List ℕ) (first : ℕ) {cur : List ℕ} {j sum n : ℕ} (f : Forwarding a (64 * p) ms first cur j sum)
+    (bound : n ≡ cond (isOpen k p) 0 64) where
+  pub page-fails : j < n → {v : ℕ} → v ≡ forwarded (getD cur j 0) (phaseByte a (64 * p + j)) → 128 ≤ v → forwardPage k a p ms ≡ none
+  unfolding forwardPage
+  page-fails q e z = go (isOpen k p) bound
+    where
+      go : (b : Bool) → n ≡ cond b 0 64 → cond b (some ms) (forwardFrom a (64 * p) ms) ≡ none
+      go true w = absurd (omega arith)
+      go false w = forwarding-fails a (64 * p) ms first f (omega arith) e z
+
+  pub page-all : j ≤ n → n ≤ j → forwardPage k a p ms ≡ some cur
+  unfolding forwardPage
+  page-all q r = go (isOpen k p) bound
+    where
+      go : (b : Bool) → n ≡ cond b 0 64 → cond b (some ms) (forwardFrom a (64 * p) ms) ≡ some cur
+      go true w = ap some (sym (f .begun (omega arith)))
+      go false w = forwarding-all a (64 * p) ms first f (omega arith)

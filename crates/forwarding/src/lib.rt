@@ -4,6 +4,7 @@ ghost use mathlib.Core.Bool.{cond};
 ghost use Prim.Native.Nat.{ℕ, _+_, _*_, _<_, _≤_};
 ghost use lib.ListN.{length, getD, take};
 ghost use Rattle.counter.specs.Counter.{counterBlock, forward, mayForward};
+ghost use Rattle.control.specs.Control.{controlLength, isOpen};
 ghost use Rattle.cache.specs.Cache.{withSlot};
 ghost use Rattle.node.specs.Sized.{Sized};
 ghost use Rattle.calls.specs.Recovery.{rebuildBlocks};
@@ -30,6 +31,17 @@ fn forwarded(minor: u8, phase: u8) -> u8
     new as u8
 }
 
+// How many lines of a page are brought forward: all, or none where the page is open.
+fn lines_read(control: &[u8], page: usize) -> usize
+    requires { ⌜ length (now control) ≡ controlLength ⌝ }
+    ensures { λ r. ⌜ r ≡ cond (isOpen (now (control .entry)) page) 0 64 ⌝ }
+{
+    if control::is_open(control, page as u64) {
+        return 0;
+    }
+    64
+}
+
 // Writes a slot with a counter block: it is dirty.
 fn put_block(image: &mut [u8], s: usize, owner: u64, major: u64, minors: &[u8])
     requires { ⌜ (73 * s + 73 ≤ length (now image)) × (length (now minors) ≡ 64) ⌝ }
@@ -43,11 +55,17 @@ fn put_block(image: &mut [u8], s: usize, owner: u64, major: u64, minors: &[u8])
 }
 
 // Fills the counter slots that have an owner: each block of the array with its minors brought forward to the phases
-// of their lines. The first line that fails ends it.
-pub fn rebuild_counters(h: usize, array: &[u8], owners: [u64; 10], image: &mut [u8]) -> Counters
-    requires { ⌜ Sized h (now array) (now image) × Placed h owners ⌝ }
+// of their lines, or as it is where its page is open. The first line that fails ends it.
+pub fn rebuild_counters(
+    h: usize,
+    control: &[u8],
+    array: &[u8],
+    owners: [u64; 10],
+    image: &mut [u8],
+) -> Counters
+    requires { ⌜ (length (now control) ≡ controlLength) × (Sized h (now array) (now image) × Placed h owners) ⌝ }
     ensures { λ r. ⌜ counted r (now (image .exit))
-        ≡ rebuildBlocks h (now (array .entry)) 0 (take 4 owners) (now (image .entry)) 0 ⌝ }
+        ≡ rebuildBlocks h (now (control .entry)) (now (array .entry)) 0 (take 4 owners) (now (image .entry)) 0 ⌝ }
 {
     let mut sum: u64 = 0;
     let mut s = 0;
@@ -58,8 +76,9 @@ pub fn rebuild_counters(h: usize, array: &[u8], owners: [u64; 10], image: &mut [
             let block = node::in_cell(array, memory_map::node_cell(h, 0, page));
             let mut minors = [0u8; 64];
             minors::unpack(block, &mut minors);
+            let n = lines_read(control, page);
             let mut j = 0;
-            while j < 64 {
+            while j < n {
                 let minor = minors[j];
                 let new = forwarded(minor, array[72 * (64 * page + j) + 64]);
                 if 128 <= new {

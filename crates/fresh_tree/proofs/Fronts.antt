@@ -148,14 +148,14 @@ module _ (h l i : ℕ) (m : InMap h (node (l + 1) i)) where
       let at-cell = sym (node-cell h (l + 1) i) in
       let next : n + 1 ≡ levelStart h (l + 1) + (i + 1) = omega arith in
       let front : a ≡ freshFront keys h n = e ∙ ap (freshFront keys h) (sym at-cell) in
-      let stored : (j : ℕ) → 8 * i ≤ j → j < 8 * i + 8 → lying h a l j ≡ freshNode keys none l j = λ j p q.
+      let stored : (j : ℕ) → 8 * i ≤ j → j < 8 * i + 8 → lying h a l j ≡ freshNode keys none none l j = λ j p q.
       let inside = in-map-node h l j (child-node h l i m j q) in
       ap (λ (s : List ℕ). lying h s l j) front ∙ front-content keys h n (cellOf h (node l j)) (omega arith) (child-before j q)
       ∙ node-stored keys h l j (inside .0) (inside .1) in
-      let b = freshNode keys none (suc l) i in
+      let b = freshNode keys none none (suc l) i in
       let cell : part (freshArray keys h) (72 * n) 72 ≡ b ++ replicate 8 0 =
       ap (λ (k : ℕ). part (freshArray keys h) (72 * k) 72) (at-cell ∙ ap (λ (x : ℕ). levelStart h x + i) (add-one l))
       ∙ cell-stored keys h (suc l) i (up .0) (up .1) in
       f ∙ ap₂ {C = List ℕ} (λ (s bs : List ℕ). put s (72 * n) bs) front
-      (tags-agree keys l (lying h a l) (freshNode keys none l) (8 * i) 8 stored)
-      ∙ front-next keys h n b within (fresh-length keys none (suc l) i) cell ∙ ap (freshFront keys h) next
+      (tags-agree keys l (lying h a l) (freshNode keys none none l) (8 * i) 8 stored)
+      ∙ front-next keys h n b within (fresh-length keys none none (suc l) i) cell ∙ ap (freshFront keys h) next

@@ -12,7 +12,7 @@ use lib.Dec.{ltb}
 use lib.ListN.{length, replicate}
 use Rattle.words.proofs.Digits.{Below}
 use Rattle.words.proofs.Order.{eq-or-not}
-use Rattle.memory_map.specs.Map.{lines}
+use Rattle.memory_map.specs.Map.{pages, lines}
 use Rattle.answer.specs.declared.Answer.{Answer}
 use Rattle.answer.specs.declared.Answer.the-variants.{Done, Cut, Refused}
 use Rattle.answer.specs.Answer.{storesOf}
@@ -22,36 +22,41 @@ use Rattle.journal.proofs.Laws.{length-batch}
 use Rattle.calls.specs.Call.{Module, Called, storing, refuse, accessRefusal}
 use Rattle.calls.specs.Read.{Reading, answered, lineMinor, readJudged, read}
 use Rattle.calls.specs.Write.{writeStores, writtenCache, writeLoaded, writePath, writeJudged, write}
+use Rattle.calls.specs.Turn.{turnRefusal, turnJudged, turn, pagePath, beforeFinished}
 use Rattle.calls.specs.Recovery.{recover}
 use Rattle.calls.specs.Format.{formatRefusal, formatted, format}
 use Rattle.calls.specs.DirtyPages.{listRefusal, listJudged}
-use Rattle.calls.specs.History.{Event, reads, writes, recovers, lists, formats, powerCut, step, Book}
-use Rattle.calls.specs.History.{commits, entered, bookAfter, Keyed, Admitted, awaits, Allowed, moduleAfter, bookOf}
-use Rattle.call_laws.proofs.Judged.{access-accepted}
-use Rattle.history_laws.proofs.Setting.{Setting}
-use Rattle.history_laws.proofs.State.{Holds, Ready}
+use Rattle.calls.specs.History.{Event, reads, writes, turns, recovers, lists, formats, powerCut, step, Book}
+use Rattle.calls.specs.History.{commits, entered, finishes, turnEntered, bookAfter, Keyed, Admitted, awaits, Allowed, moduleAfter, bookOf}
+use Rattle.call_laws.proofs.Judged.{access-accepted, turn-accepted}
+use Rattle.history_laws.proofs.Setting.{Setting, Opening}
+use Rattle.history_laws.proofs.Opening.{closed-line}
+use Rattle.history_laws.proofs.State.{Holds, Ready, settled-now}
 use Rattle.history_laws.proofs.Outcome.{Outcome, done, dropped, kept, cases}
-use Rattle.history_laws.proofs.Reading.{Access, was, walk, stores, path-is, minor-is, reads-blank, reads-text}
+use Rattle.history_laws.proofs.Page.{Paged, path-is}
+use Rattle.history_laws.proofs.Reading.{Access, was, paged, walk, stores, minor-is, reads-blank, reads-text}
 use Rattle.history_laws.proofs.Writing.{read-outcome, Writable, cells, root-new, few-new, some-new, write-outcome, write-is}
+use Rattle.history_laws.proofs.Turned.{Turns, refused, went, turn-ends}
 use Rattle.history_laws.proofs.Recovery.{Ends, cut, rebuilt, ends}
-use Rattle.history_laws.proofs.Refused.{Same, read-same, write-same, recover-same}
+use Rattle.history_laws.proofs.Refused.{Same, read-same, write-same, turn-same, recover-same}
 
 module _ (S : Setting) where
   open Setting S using (keys, h)
 
   pub record Inv (aw : Bool) (b : Book) (m : Module) : Type 0 where
-    pub holds : Holds S b m
-    pub ready : aw ≡ false → Ready S b m
+    pub opening : Opening
+    pub holds : Holds S b opening m
+    pub ready : aw ≡ false → Ready S b opening m
 
   -- a call that leads from the one to the other, the book unchanged
   abbrev Leads : Bool → Book → Called → Type 0
   Leads aw b out = Inv (awaits aw (out .answer)) b (out .after)
 
-  ready-inv : {aw : Bool} {b : Book} {m : Module} → Ready S b m → Inv aw b m
-  ready-inv r = record { holds = r .holds; ready = λ z. r }
+  pub ready-inv : {aw : Bool} {b : Book} {o : Opening} {m : Module} → Ready S b o m → Inv aw b m
+  ready-inv {o = o} r = record { opening = o; holds = r .holds; ready = λ z. r }
 
-  cut-only : {b : Book} {m : Module} → Holds S b m → Inv true b m
-  cut-only v = record { holds = v; ready = λ e. absurd (false≢true (sym e)) }
+  cut-only : {b : Book} {o : Opening} {m : Module} → Holds S b o m → Inv true b m
+  cut-only {o = o} v = record { opening = o; holds = v; ready = λ e. absurd (false≢true (sym e)) }
 
   refused-inv : {aw : Bool} {b : Book} {m : Module} (out : Called) → Inv aw b m → Same m out
       → (n : ℕ) × (x : ℕ) × (y : ℕ) × (out .answer ≡ Refused n 0 x y) → Leads aw b out
@@ -59,9 +64,24 @@ module _ (S : Setting) where
   refused-inv {aw} {b} out v same r =
       subst (λ (a : Answer). Inv (awaits aw a) b (out .after)) (sym (r .3)) (subst (Inv aw b) (sym (same (r .0) (r .1) (r .2) (r .3))) v)
 
-  cut-inv : (aw : Bool) {b : Book} (out : Called) (n : ℕ) → out .answer ≡ Cut n → Holds S b (out .after) → Leads aw b out
+  cut-inv : (aw : Bool) {b : Book} {o : Opening} (out : Called) (n : ℕ) → out .answer ≡ Cut n → Holds S b o (out .after) → Leads aw b out
   unfolding awaits
   cut-inv aw {b} out n r v = subst (λ (a : Answer). Inv (awaits aw a) b (out .after)) (sym r) (cut-only v)
+
+  -- a call that enters something into the book, where it is done and where more than size of its stores are made
+  module _ (book : Bool → Book) (enters : Answer → Bool) (out : Called) where
+    abbrev By : Answer → Type 0
+    By a = Inv (awaits false a) (book (enters a)) (out .after)
+
+    ended : {size : ℕ} {answer : Answer} → enters answer ≡ true → ((k : ℕ) → enters (Cut k) ≡ ltb size k)
+        → Outcome S (book false) (book true) size answer out → By (out .answer)
+    unfolding awaits
+    ended {answer = answer} yea nay (done e y) =
+        subst By (sym e) (subst (λ (s : Bool). Inv (awaits false answer) (book s) (out .after)) (sym yea) (ready-inv y))
+    ended {size} yea nay (dropped i p e x) =
+        subst By (sym e) (subst (λ (s : Bool). Inv true (book s) (out .after)) (sym (nay i ∙ le-ltb size i p)) (cut-only x))
+    ended {size} yea nay (kept i p e x) =
+        subst By (sym e) (subst (λ (s : Bool). Inv true (book s) (out .after)) (sym (nay i ∙ lt-ltb size i p)) (cut-only x))
 
   -- ---- a read with the module's keys
 
@@ -70,18 +90,23 @@ module _ (S : Setting) where
   read-ended b size answer out (dropped i p e x) = cut-inv false out i e x
   read-ended b size answer out (kept i p e x) = cut-inv false out i e x
 
-  module _ {b : Book} {m : Module} (r : Ready S b m) where
-    open-line : (n : ℕ) (buffer : List ℕ) → accessRefusal keys n buffer m ≡ 0 → Access S b m n
+  module _ {b : Book} {o : Opening} {m : Module} (r : Ready S b o m) where
+    open-line : (n : ℕ) (buffer : List ℕ) → accessRefusal keys n buffer m ≡ 0 → Access S b o m n
     open-line n buffer e =
-        record { ready = r; inside = subst (λ (d : ℕ). n < lines d) (r .holds .deep) (access-accepted keys n buffer m e .entry .inside) }
+        let ok = access-accepted keys n buffer m e in
+        record {
+          ready = r;
+          inside = subst (λ (d : ℕ). n < lines d) (r .holds .deep) (ok .entry .inside);
+          not-turned = closed-line (settled-now (r .holds) (r .idle) .section) n (ok .closed);
+        }
 
     module _ (n allowance : ℕ) (out : List ℕ) where
-      read-stored : (w : Access S b m n) (answer : Answer) (t : List ℕ)
+      read-stored : (w : Access S b o m n) (answer : Answer) (t : List ℕ)
           → Leads false b (answered allowance m (stores w) answer (walk w .cache) t out .called)
       unfolding answered
       read-stored w answer t = read-ended b _ answer _ (read-outcome w answer allowance)
 
-      read-text : Access S b m n → accessRefusal keys n out m ≡ 0 → (o : Option (List ℕ)) → b .text n ≡ o
+      read-text : Access S b o m n → accessRefusal keys n out m ≡ 0 → (x : Option (List ℕ)) → b .text n ≡ x
           → Leads false b (read keys n allowance out m .called)
       read-text w e none z =
           subst (λ (x : Reading). Leads false b (x .called)) (sym (reads-blank w out e allowance z)) (read-stored w _ (replicate 64 0))
@@ -108,42 +133,25 @@ module _ (S : Setting) where
       not-entered full k x y = ready-inv r
 
       -- whether the cut commits it: more than size stores of 2 size + 3
-      module _ (size full : ℕ) (f : full ≡ 2 * size + 3) (answer : Answer) (yea : (a : ℕ) → commits answer a ≡ true) (out : Called) where
-        half : (full - 3) / 2 ≡ size
-        half = omega arith
-
-        abbrev By : Answer → Type 0
-        By a = Inv (awaits false a) (entered (commits a full) n text b) (out .after)
-
-        write-ended : Outcome S b (entered true n text b) size answer out → Entered full out
-        unfolding awaits commits entered
-        write-ended (done e y) =
-            subst By (sym e)
-            (subst (λ (s : Bool). Inv (awaits false answer) (entered s n text b) (out .after)) (sym (yea full)) (ready-inv y))
-        write-ended (dropped i p e x) =
-            subst By (sym e)
-            (subst (λ (s : Bool). Inv true (entered s n text b) (out .after)) (sym (ap (λ (k : ℕ). ltb k i) half ∙ le-ltb size i p))
-            (cut-only (not-so x)))
-          where
-            not-so : Holds S b (out .after) → Holds S (entered false n text b) (out .after)
-            not-so w = w
-        write-ended (kept i p e x) =
-            subst By (sym e)
-            (subst (λ (s : Bool). Inv true (entered s n text b) (out .after)) (sym (ap (λ (k : ℕ). ltb k i) half ∙ lt-ltb size i p))
-            (cut-only x))
+      write-ended : (size full : ℕ) → full ≡ 2 * size + 3 → (answer : Answer) → ((k : ℕ) → commits answer k ≡ true) → (out : Called)
+          → Outcome S b (entered true n text b) size answer out → Entered full out
+      unfolding commits entered
+      write-ended size full f answer yea out =
+          let half : (full - 3) / 2 ≡ size = omega arith in
+          ended (λ s. entered s n text b) (λ a. commits a full) out (yea full) (λ i. ap (λ (k : ℕ). ltb k i) half)
 
       abbrev most : ℕ
       most = storesOf ((write keys n text (2 ^ 64 - 1) m) .answer)
 
       module _ (open-now : accessRefusal keys n text m ≡ 0) where
-        w : Access S b m n
+        w : Access S b o m n
         w = open-line n text open-now
 
         -- its minor is 127
         worn : b .count n ≡ 127 → write keys n text allowance m ≡ refuse m 26 0 0
         unfolding writeJudged writePath writeLoaded
         worn e =
-            ap (λ (k : ℕ). writeJudged k keys n text allowance m) open-now ∙ ap (writePath keys n text allowance m) (path-is w)
+            ap (λ (k : ℕ). writeJudged k keys n text allowance m) open-now ∙ ap (writePath keys n text allowance m) (path-is (paged w))
             ∙ ap (λ (y : Bool). cond y (refuse m 26 0 0) (storing allowance m batch (Done (length batch) 0)
             (writtenCache (depth (m .control)) keys n (walk w .cache)))) (eq-eqb (lineMinor (walk w .cache) n) 127 (minor-is w ∙ e))
           where
@@ -190,6 +198,33 @@ module _ (S : Setting) where
           go (suc k) e =
               subst (Entered most) (sym (ap (λ (i : ℕ). writeJudged i keys n text allowance m) e)) (not-entered most (suc k) 0 0)
 
+    -- ---- a turn
+
+    module _ (p allowance : ℕ) where
+      abbrev before : ℕ
+      before = beforeFinished keys p m (pagePath keys p m)
+
+      abbrev Finished : Called → Type 0
+      Finished out = Inv (awaits false (out .answer)) (turnEntered (finishes (out .answer) before) p b) (out .after)
+
+      not-finished : (k x y : ℕ) → Finished (refuse m k x y)
+      unfolding awaits finishes turnEntered
+      not-finished k x y = ready-inv r
+
+      turn-own : Finished (turn keys p allowance m)
+      unfolding turnJudged finishes turnEntered
+      turn-own = go (turnRefusal keys p m) refl
+        where
+          ends-so : {w : Paged S b o m p} → Turns w (turn keys p allowance m) → Finished (turn keys p allowance m)
+          ends-so (refused n i j e) = subst Finished (sym e) (not-finished n i j)
+          ends-so (went n x) = ended (λ s. turnEntered s p b) (λ a. finishes a before) _ refl (λ i. refl) x
+
+          go : (k : ℕ) → turnRefusal keys p m ≡ k → Finished (turn keys p allowance m)
+          go zero e =
+              let inside = subst (λ (d : ℕ). p < pages d) (r .holds .deep) (turn-accepted keys p m e .inside) in
+              ends-so (turn-ends (record { ready = r; page = inside }) e allowance)
+          go (suc k) e = subst Finished (sym (ap (λ (i : ℕ). turnJudged i keys p allowance m) e)) (not-finished (suc k) 0 0)
+
   -- ---- a recovery
 
   recover-own : (aw : Bool) {b : Book} {m : Module} → Inv aw b m → (allowance : ℕ) → Leads aw b (recover keys allowance m)
@@ -227,6 +262,21 @@ module _ (S : Setting) where
         subst (WriteInv aw given n text allowance) (sym (s .3))
         (subst (Inv aw b) (sym (write-same m given n text allowance (s .0) (s .1) (s .2) (s .3))) v)
 
+    TurnInv : Bool → List ℕ → ℕ → ℕ → Answer → Type 0
+    TurnInv s given p allowance a =
+        Inv (awaits s a) (turnEntered (finishes a (beforeFinished given p m (pagePath given p m))) p b) ((turn given p allowance m) .after)
+
+    turn-event : aw ≡ false → (given : List ℕ) (p allowance : ℕ) → Keyed keys given ((turn given p allowance m) .answer)
+        → TurnInv aw given p allowance ((turn given p allowance m) .answer)
+    unfolding TurnInv awaits finishes turnEntered
+    turn-event idle given p allowance (inl z) =
+        subst (λ (g : List ℕ). TurnInv aw g p allowance ((turn g p allowance m) .answer)) (sym z)
+        (subst (λ (s : Bool). TurnInv s keys p allowance ((turn keys p allowance m) .answer)) (sym idle)
+        (turn-own (v .ready idle) p allowance))
+    turn-event idle given p allowance (inr s) =
+        subst (TurnInv aw given p allowance) (sym (s .3))
+        (subst (Inv aw b) (sym (turn-same m given p allowance (s .0) (s .1) (s .2) (s .3))) v)
+
     recover-event : (given : List ℕ) (allowance : ℕ) → Keyed keys given ((recover given allowance m) .answer)
         → Leads aw b (recover given allowance m)
     recover-event given allowance (inl z) = subst (λ (g : List ℕ). Leads aw b (recover g allowance m)) (sym z) (recover-own aw v allowance)
@@ -259,9 +309,10 @@ module _ (S : Setting) where
         })
 
     event : (e : Event) → Admitted keys aw m e → Inv (awaits aw ((step e m) .answer)) (bookAfter e m b) ((step e m) .after)
-    unfolding Admitted step bookAfter awaits WriteInv format
+    unfolding Admitted step bookAfter awaits WriteInv TurnInv format
     event (reads given n allowance out) ok = read-event (ok .0) given n allowance out (ok .1)
     event (writes given n text allowance) ok = write-event (ok .0) given n text (record { at = ok .4 }) allowance (ok .1)
+    event (turns given p allowance) ok = turn-event (ok .0) given p allowance (ok .1)
     event (recovers given allowance) ok = recover-event given allowance (ok .0)
     event (lists out) ok = list-event (ok .0) out (listRefusal (m .control) (m .cache) out)
     event (formats given d) ok = format-event given d (formatRefusal given d m) (ok .2)

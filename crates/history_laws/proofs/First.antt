@@ -1,22 +1,21 @@
 -- The first state of a history: what a done format leaves. Assumes nothing.
 use mathlib.Core.Path.{_≡_, refl, sym, ap₂, _∙_}
 use mathlib.Core.Bool.{Bool, true, _&&_}
-use Prim.Native.Nat.{ℕ, zero, suc, _^_, _≤_, _<_}
+use Prim.Native.Nat.{ℕ, _^_, _≤_, _<_}
 use native.Mathlib.Omega.{arith}
 use borrow.Author.Tests.{le-leb}
 use lib.Dec.{lit<}
 use Rattle.words.specs.Bytes.{number, digits}
 use Rattle.words.proofs.Digits.{number-exact}
-use Rattle.memory_map.specs.Map.{lines}
-use Rattle.control.specs.Control.{depth, root, count, validHead, freshControl}
+use Rattle.control.specs.Control.{depth, root, count, turnCount, validHead, freshControl}
+use Rattle.control.proofs.Laws.{turn-count-at, turn-none}
 use Rattle.cache.specs.Cache.{emptyCache}
 use Rattle.cache.proofs.Laws.{length-empty, below-empty, owner-empty, formed-empty}
 use Rattle.journal.specs.Journal.{media}
-use Rattle.calls.specs.Recovery.{total}
-use Rattle.calls.specs.Format.{freshArray, countsFrom}
+use Rattle.calls.specs.Format.{freshArray}
 use Rattle.calls.specs.History.{emptyBook}
 use Rattle.call_laws.proofs.Fresh.{array-length, array-bytes, control-length, control-bytes}
-use Rattle.history_laws.proofs.Setting.{Setting, treeRoot}
+use Rattle.history_laws.proofs.Setting.{Setting, treeRoot, closed, isDone, Says}
 use Rattle.history_laws.proofs.Tree.{tree-tag}
 use Rattle.history_laws.proofs.Formatted.{noWrites, formatted-durable, none-listed}
 use Rattle.history_laws.proofs.State.{RowOk, Settled, Ready, settled-holds}
@@ -39,10 +38,9 @@ fresh-root : (h r : ℕ) → r < 2 ^ 64 → root (freshControl h r) ≡ r
 unfolding root freshControl digits
 fresh-root h r p = number-exact 256 8 r (lit< tt) p
 
-no-writes : (s k : ℕ) → total (countsFrom (noWrites .count) s k) ≡ 0
-unfolding total countsFrom
-no-writes s zero = refl
-no-writes s (suc k) = omega (arith, no-writes (suc s) k)
+fresh-turn : (h r : ℕ) → turnCount (freshControl h r) ≡ 0
+unfolding turnCount freshControl digits
+fresh-turn h r = refl
 
 -- ---- the state
 
@@ -55,8 +53,8 @@ module _ (S : Setting) where
   word : top < 2 ^ 64
   word = tree-tag S noWrites h 0
 
-  first-settled : Settled S emptyBook (media (freshArray keys h) (freshControl h top))
-  unfolding emptyBook RowOk
+  first-settled : Settled S emptyBook closed (media (freshArray keys h) (freshControl h top))
+  unfolding emptyBook RowOk isDone Says
   first-settled =
       record {
         formed = record {
@@ -68,11 +66,15 @@ module _ (S : Setting) where
         right = fresh-head h top low high;
         deep = fresh-depth h top;
         idle = fresh-count h top;
-        keeps = record { durable = formatted-durable S; rows = λ n p. refl; sum = no-writes 0 (lines h) };
+        section = record {
+          valid = sym (turn-none (freshControl h top) (sym (turn-count-at (freshControl h top)) ∙ fresh-turn h top));
+          says = fresh-turn h top;
+        };
+        keeps = record { durable = formatted-durable S; rows = λ n p. refl };
         top = fresh-root h top word;
       }
 
-  pub first-ready : Ready S emptyBook (record { array = freshArray keys h; control = freshControl h top; cache = emptyCache h })
+  pub first-ready : Ready S emptyBook closed (record { array = freshArray keys h; control = freshControl h top; cache = emptyCache h })
   unfolding emptyBook
   first-ready =
       record {

@@ -1,5 +1,6 @@
 -- A formatted array is what recovery asks for: it keeps the fresh tree of no writes, and lists nothing. Assumes nothing.
 use mathlib.Core.Path.{_≡_, sym, ap, _∙_}
+use mathlib.Core.Bool.{false≢true}
 use mathlib.Core.List.{List}
 use Prim.Native.Nat.{ℕ, suc, _+_, _*_, _<_, zero-le}
 use native.Mathlib.Omega.{arith}
@@ -17,16 +18,16 @@ use Rattle.calls.specs.Recovery.{phaseByte}
 use Rattle.calls.specs.Format.{freshArray}
 use Rattle.call_laws.proofs.Fresh.{array-length}
 use Rattle.call_laws.proofs.FreshCells.{none, lines-zero, shadows-zero, node-stored}
-use Rattle.history_laws.proofs.Setting.{Setting, Tree, Small, treeNode, nodeIn}
+use Rattle.history_laws.proofs.Setting.{Setting, Tree, Small, treeNode, nodeIn, closed, opens, isDone}
 use Rattle.history_laws.proofs.Tree.{fresh-major, fresh-minor}
 use Rattle.history_laws.proofs.Recovered.{Durable}
 
--- no line is written
+-- no page is turned, and no line is written
 abbrev pub noWrites : Tree
-noWrites = record { count = none }
+noWrites = record { major = none; count = none }
 
 no-counts : Small noWrites
-no-counts = record { minor = λ n. lit< tt }
+no-counts = record { major = λ p. lit< tt; minor = λ n. lit< tt }
 
 module _ (S : Setting) where
   open Setting S using (keys, h)
@@ -52,7 +53,8 @@ module _ (S : Setting) where
   no-minor : (p j : ℕ) → p < pages h → j < 64 → minor (nodeIn S (freshArray keys h) 0 p) j ≡ 0
   no-minor p j q r = ap (λ (b : List ℕ). minor b j) (fresh-page p q) ∙ fresh-minor S no-counts p j r
 
-  pub formatted-durable : Durable S noWrites (freshArray keys h)
+  pub formatted-durable : Durable S noWrites closed (freshArray keys h)
+  unfolding opens isDone
   formatted-durable =
       record {
         whole = array-length keys h;
@@ -63,4 +65,5 @@ module _ (S : Setting) where
         behind = λ p j q r. omega (arith, no-minor p j q r);
         near = λ p j q r. omega (arith, no-minor p j q r);
         phases = λ n p. no-phase n p;
+        open-block = λ p q e. absurd (false≢true e);
       }

@@ -1,10 +1,15 @@
 pub mod Batch
+pub mod Data
 pub mod Events
+pub mod Finished
 pub mod First
 pub mod Formatted
 pub mod Live
+pub mod Opening
 pub mod Outcome
+pub mod Page
 pub mod Pending
+pub mod Reached
 pub mod Reading
 pub mod Recovered
 pub mod Recovery
@@ -16,6 +21,9 @@ pub mod State
 pub mod Stores
 pub mod Told
 pub mod Tree
+pub mod Turn
+pub mod Turned
+pub mod Turning
 pub mod Walked
 pub mod Writing
 pub mod Written

@@ -23,23 +23,23 @@ use Rattle.cache.proofs.Laws.{holds-owner, owner-holds, slot-holds, current-cac
 use Rattle.journal.proofs.Again.{put-cells}
 use Rattle.calls.specs.Path.{evicted, nodeCell}
 use Rattle.call_laws.proofs.Loads.{Fit}
-use Rattle.history_laws.proofs.Setting.{Setting, Tree, treeNode, nodeIn}
+use Rattle.history_laws.proofs.Setting.{Setting, Tree, treeNode, nodeIn, Opening}
 use Rattle.history_laws.proofs.Tree.{tree-length}
 use Rattle.history_laws.proofs.Recovered.{Durable}
 use Rattle.history_laws.proofs.Stores.{with-node, node-same, other-level, node-lines, shadow-kept, fresh-kept, node-durable}
 use Rattle.history_laws.proofs.Stores.{Vacant, shadow-lines, listed-same, listed-other, nodes-kept, shadow-durable}
 
-module _ (S : Setting) (T : Tree) where
+module _ (S : Setting) (T : Tree) (o : Opening) where
   open Setting S using (h)
 
   pub record Live (a c : List ℕ) : Type 0 where
-    pub durable : Durable S T a
+    pub durable : Durable S T o a
     pub fit : Fit h c
     pub listed : (s : ℕ) → s < slots h → owner c s ≡ shadowOwner h a s
     pub fresh : (s i : ℕ) → s < slots h → owner c s ≡ suc i → content c s ≡ treeNode S T (levelOf s) i
     pub clean : (s i : ℕ) → s < slots h → owner c s ≡ suc i → dirty c s ≡ 0 → nodeIn S a (levelOf s) i ≡ treeNode S T (levelOf s) i
 
-module _ {S : Setting} {T : Tree} {a c : List ℕ} (v : Live S T a c) where
+module _ {S : Setting} {T : Tree} {o : Opening} {a c : List ℕ} (v : Live S T o a c) where
   open Setting S using (keys, h, high)
 
   -- every block and node is then the fresh tree's
@@ -71,7 +71,7 @@ module _ {S : Setting} {T : Tree} {a c : List ℕ} (v : Live S T a c) where
     -- ---- its slot freed: the dirty former owner's cell stored
 
     record Freed (b : List ℕ) : Type 0 where
-      durable : Durable S T b
+      durable : Durable S T o b
       shadows : (t : ℕ) → t < slots h → shadowOwner h b t ≡ shadowOwner h a t
       kept : (k j : ℕ) → k ≤ h → j < nodes h k → nodeIn S a k j ≡ treeNode S T k j → nodeIn S b k j ≡ treeNode S T k j
       old : (j : ℕ) → j < nodes h l → owner c (slotOf l i) ≡ suc j → nodeIn S b l j ≡ treeNode S T l j
@@ -216,7 +216,7 @@ module _ {S : Setting} {T : Tree} {a c : List ℕ} (v : Live S T a c) where
         kept-next (levelOf t) j (level-within h t p) (slot-holds h c t j (v .fit .formed) p o' .0)
         (v .clean t j p o' (sym (dirty-other h c (v .fit .sized) (slotOf l i) within (suc i) 0 (treeNode S T l i) size t z) ∙ e))
 
-    pub live-next : Fit h next → Live S T array-next next
+    pub live-next : Fit h next → Live S T o array-next next
     live-next fit =
         record {
           durable = shadow-durable (freed .durable) vacant;
@@ -225,3 +225,16 @@ module _ {S : Setting} {T : Tree} {a c : List ℕ} (v : Live S T a c) where
           fresh = λ t j p o. fresh-next t j p o (eq-or-not t (slotOf l i));
           clean = λ t j p o e. clean-next t j p o e (eq-or-not t (slotOf l i));
         }
+
+-- a node stored as it is in the tree
+pub live-node : {S : Setting} {T : Tree} {o : Opening} {a c : List ℕ} (v : Live S T o a c) (l i : ℕ) (low : l ≤ S .h)
+    (inside : i < nodes (S .h) l) → Live S T o (with-node (v .durable) l i low inside) c
+live-node {S} {c = c} v l i low inside =
+    record {
+      durable = node-durable (v .durable) l i low inside;
+      fit = v .fit;
+      listed = λ s p. v .listed s p ∙ sym (shadow-kept (v .durable) l i low inside s p);
+      fresh = v .fresh;
+      clean = λ s j p o e. fresh-kept (v .durable) l i low inside (levelOf s) j (level-within (S .h) s p)
+          (slot-holds (S .h) c s j (v .fit .formed) p o .0) (v .clean s j p o e);
+    }

@@ -1,5 +1,5 @@
--- Recovery from what a power failure leaves: where the array has the fresh tree of some counts but for what the shadow lists, and phases
--- that bring the listed blocks forward to them, the rebuilt cache gives every block and node of that tree. Assumes nothing.
+-- Recovery from what a power failure leaves: where the array has a fresh tree but for what the shadow lists, and phases that bring the
+-- listed blocks forward to its counts, the rebuilt cache gives every block and node of that tree. Assumes nothing.
 use mathlib.Core.Path.{_≡_, refl, sym, ap, ap₂, _∙_, subst}
 use mathlib.Core.Logic.{_⊎_, inl, inr}
 use mathlib.Core.Bool.{Bool, true, false, _&&_, cond, false≢true}
@@ -11,7 +11,7 @@ use native.Mathlib.Omega.{arith}
 use borrow.Author.Tests.{le-leb, eq-eqb}
 use lib.ListN.{length, getD, take, drop}
 use Rattle.words.proofs.Order.{eq-or-not}
-use Rattle.memory_map.specs.Map.{pages, lines, nodes, slots, arrayLength}
+use Rattle.memory_map.specs.Map.{pageOf, pages, lines, nodes, slots, arrayLength}
 use Rattle.memory_map.proofs.Laws.{nodes-small, nodes-below, nodes-bottom, nodes-some}
 use Rattle.slot_map.specs.Slots.{cacheLength, slotOf, levelOf}
 use Rattle.slot_map.proofs.Laws.{slot-within, level-slot, level-low, level-high, level-within, belongs-node}
@@ -25,17 +25,18 @@ use Rattle.cache.proofs.Laws.{dirty-empty, holds-owner, owner-holds, current-ca
 use Rattle.answer.specs.declared.Answer.the-variants.{Done}
 use Rattle.control.specs.Control.{depth, root}
 use Rattle.calls.specs.Call.{Module, Called}
-use Rattle.calls.specs.Recovery.{phaseByte, forwardFrom, total, Rebuilt, rebuilt, damaged}
+use Rattle.calls.specs.Recovery.{phaseByte, forwardFrom, forwardPage, total, Rebuilt, rebuilt, damaged}
 use Rattle.calls.specs.Recovery.{rebuildBlock, rebuildSlot, rebuildBlocks, rebuildNode, rebuildNodes, recoverRoot}
 use Rattle.calls.specs.Recovery.{recoverRebuilt, recoverShadow, recoverMedia, refuseAfter}
 use Rattle.calls.specs.Format.{countsFrom, freshNode}
 use Rattle.calls.specs.Path.{childTags}
 use Rattle.call_laws.proofs.Tags.{tags-agree}
-use Rattle.history_laws.proofs.Setting.{Setting, Tree, Small, treeNode, treeRoot, nodeIn, tagOf}
-use Rattle.history_laws.proofs.Tree.{tree-length}
+use Rattle.history_laws.proofs.Setting.{Setting, Tree, Small, treeNode, treeRoot, nodeIn, tagOf, Opening, opens, sealed, Section}
+use Rattle.history_laws.proofs.Tree.{tree-length, fresh-minors}
+use Rattle.history_laws.proofs.Opening.{section-open, not-done, sealed-tree}
 
--- what an array keeps of a tree
-module _ (S : Setting) (T : Tree) where
+-- what an array keeps of a tree, and of a turn that is not finished
+module _ (S : Setting) (T : Tree) (o : Opening) where
   open Setting S using (h)
   open Tree T using (count)
 
@@ -44,10 +45,11 @@ module _ (S : Setting) (T : Tree) where
     pub small : Small T
     pub owners : Owned h (shadowOwner h a)
     pub stored : (l i : ℕ) → l ≤ h → i < nodes h l → (shadowOwner h a (slotOf l i) ≡ suc i → ⊥) → nodeIn S a l i ≡ treeNode S T l i
-    pub majors : (p : ℕ) → p < pages h → major (nodeIn S a 0 p) ≡ 0
+    pub majors : (p : ℕ) → p < pages h → major (nodeIn S a 0 p) ≡ T .major p
     pub behind : (p j : ℕ) → p < pages h → j < 64 → minor (nodeIn S a 0 p) j ≤ count (64 * p + j)
     pub near : (p j : ℕ) → p < pages h → j < 64 → count (64 * p + j) ≤ minor (nodeIn S a 0 p) j + phaseOf (count (64 * p + j))
-    pub phases : (n : ℕ) → n < lines h → phaseByte a n ≡ phaseOf (count n)
+    pub phases : (n : ℕ) → n < lines h → phaseByte a n ≡ phaseOf (sealed o T n .count n)
+    pub open-block : (p : ℕ) → p < pages h → opens o p ≡ true → nodeIn S a 0 p ≡ treeNode S T 0 p
 
 -- ---- minors brought forward
 
@@ -95,33 +97,50 @@ adds-step g s n sum t told e q = omega (arith, e, q)
 
 -- ---- blocks
 
-module _ {S : Setting} {T : Tree} {a : List ℕ} (m : Durable S T a) where
+module _ {S : Setting} {T : Tree} {o : Opening} {a : List ℕ} (m : Durable S T o a) where
   open Setting S using (keys, h, high)
   open Tree T using (count)
 
   abbrev block : ℕ → List ℕ
   block p = nodeIn S a 0 p
 
-  forwarded : (p : ℕ) → p < pages h → forwardFrom a (64 * p) (minors (block p)) ≡ some (countsFrom count (64 * p) 64)
+  -- the phases of a page that is not open
+  phases-of : (p : ℕ) → p < pages h → opens o p ≡ false → (k : ℕ) → k < 64 → phaseByte a (64 * p + k) ≡ phaseOf (count (64 * p + k))
   unfolding lines
-  forwarded p q =
-      let size = length-minors (block p) in
-      forward-counts a (m .small) (64 * p) (minors (block p))
-      (λ k r. (m .behind p k q (omega arith), omega (arith, m .near p k q (omega arith)))) (λ k r. m .phases (64 * p + k) (omega arith))
-      ∙ ap (λ (n : ℕ). some (countsFrom count (64 * p) n)) size
+  phases-of p q e k r =
+      let page : p ≡ pageOf (64 * p + k) = omega arith in
+      m .phases (64 * p + k) (omega arith)
+      ∙ ap (λ (U : Tree). phaseOf (U .count (64 * p + k)))
+      (sealed-tree o T (64 * p + k) (not-done o (64 * p + k) (subst (λ (i : ℕ). opens o i ≡ false) page e)))
+
+  forwarded : {k : List ℕ} → Section o k → (p : ℕ) → p < pages h
+      → forwardPage k a p (minors (block p)) ≡ some (countsFrom count (64 * p) 64)
+  unfolding forwardPage
+  forwarded {k} said p q =
+      ap (λ (b : Bool). cond b (some (minors (block p))) (forwardFrom a (64 * p) (minors (block p)))) (section-open said p)
+      ∙ go (opens o p) refl
+    where
+      go : (b : Bool) → opens o p ≡ b
+          → cond b (some (minors (block p))) (forwardFrom a (64 * p) (minors (block p))) ≡ some (countsFrom count (64 * p) 64)
+      go true e = ap some (ap minors (m .open-block p q e) ∙ fresh-minors S (m .small) p)
+      go false e =
+          let size = length-minors (block p) in
+          forward-counts a (m .small) (64 * p) (minors (block p))
+          (λ k r. (m .behind p k q (omega arith), omega (arith, m .near p k q (omega arith)))) (λ k r. phases-of p q e k (omega arith))
+          ∙ ap (λ (n : ℕ). some (countsFrom count (64 * p) n)) size
 
   -- what the block of a page adds to the sum brought forward
   unfoldable pub pageSum : ℕ → ℕ
   pageSum p = total (countsFrom count (64 * p) 64) - total (minors (block p))
 
-  block-built : (c : List ℕ) (sum s p : ℕ) → p < pages h
-      → rebuildBlock h a c sum s p ≡ rebuilt (withSlot c s (suc p) 1 (treeNode S T 0 p)) (sum + pageSum p)
+  block-built : {k : List ℕ} → Section o k → (c : List ℕ) (sum s p : ℕ) → p < pages h
+      → rebuildBlock h k a c sum s p ≡ rebuilt (withSlot c s (suc p) 1 (treeNode S T 0 p)) (sum + pageSum p)
   unfolding rebuildBlock freshNode pageSum
-  block-built c sum s p q =
+  block-built said c sum s p q =
       ap (λ (r : Option (List ℕ)). elim r as (λ z. Rebuilt) [
         | none ↦ damaged
         | some ms ↦ rebuilt (withSlot c s (suc p) 1 (counterBlock (major (block p)) ms)) (sum + (total ms - total (minors (block p))))
-      ]) (forwarded p q)
+      ]) (forwarded said p q)
       ∙ ap (λ (k : ℕ). rebuilt (withSlot c s (suc p) 1 (counterBlock k (countsFrom count (64 * p) 64))) (sum + pageSum p)) (m .majors p q)
 
   -- ---- the cache, slot by slot
@@ -282,50 +301,6 @@ module _ {S : Setting} {T : Tree} {a : List ℕ} (m : Durable S T a) where
   unfolding added
   owner-some o p sum e = sym (ap (λ (k : ℕ). sum + added k) e)
 
-  -- counter slots from s on
-  pub record BlocksFrom (n s : ℕ) (c : List ℕ) (sum : ℕ) : Type 0 where
-    pub cache : List ℕ
-    pub told : ℕ
-    pub same : rebuildBlocks h a s (listing s n) c sum ≡ rebuilt cache told
-    pub upto : Upto (s + n) cache
-    pub adds : told ≡ sum + total (countsFrom (λ t. added (shadowOwner h a t)) s n)
-
-  blocks-from : (n s : ℕ) (c : List ℕ) (sum : ℕ) → s + n ≤ 4 → Upto s c → BlocksFrom n s c sum
-  unfolding rebuildBlocks rebuildSlot from slots
-  blocks-from zero s c sum p u =
-      record {
-        cache = c;
-        told = sum;
-        same = refl;
-        upto = subst (λ (k : ℕ). Upto k c) (omega arith) u;
-        adds = adds-none (λ t. added (shadowOwner h a t)) s sum;
-      }
-  blocks-from (suc n) s c sum p u = go (λ d t v. blocks-from n (suc s) d t (omega arith) v) (shadowOwner h a s) refl
-    where
-      after : Rebuilt → Rebuilt
-      after r = elim r as (λ z. Rebuilt) [ damaged ↦ damaged | rebuilt d t ↦ rebuildBlocks h a (suc s) (listing (suc s) n) d t ]
-
-      step : {d : List ℕ} {t : ℕ} → rebuildSlot h a c sum s (shadowOwner h a s) ≡ rebuilt d t → t ≡ sum + added (shadowOwner h a s)
-          → BlocksFrom n (suc s) d t → BlocksFrom (suc n) s c sum
-      step e w r =
-          record {
-            cache = r .cache;
-            told = r .told;
-            same = ap after e ∙ r .same;
-            upto = subst (λ (k : ℕ). Upto k (r .cache)) (omega arith) (r .upto);
-            adds = adds-step (λ t. added (shadowOwner h a t)) s n sum _ (r .told) w (r .adds);
-          }
-
-      go : ((d : List ℕ) (t : ℕ) → Upto (suc s) d → BlocksFrom n (suc s) d t) → (o : ℕ) → shadowOwner h a s ≡ o → BlocksFrom (suc n) s c sum
-      go others zero e = step (ap (rebuildSlot h a c sum s) e) (owner-none (shadowOwner h a s) sum e) (others c sum (skipped s c e u))
-      go others (suc i) e =
-          let level : levelOf s ≡ 0 = level-low s (omega arith) in
-          let index : i < nodes h 0 = subst (λ (k : ℕ). i < nodes h k) level (listed-node s i (omega arith) e .0) in
-          let page : i < pages h = omega (arith, index, nodes-bottom h) in
-          step (ap (rebuildSlot h a c sum s) e ∙ block-built c sum s i page) (owner-some (shadowOwner h a s) i sum e)
-          (others (withSlot c s (suc i) 1 (treeNode S T 0 i)) _
-          (filled s i c (treeNode S T 0 i) (omega arith) e (ap (λ (k : ℕ). treeNode S T k i) (sym level)) u))
-
   -- node slots from s on
   nodes-from : (n s : ℕ) (c : List ℕ) → 4 ≤ s → s + n ≤ slots h → Upto s c → Upto (s + n) (rebuildNodes h keys a s (listing s n) c)
   unfolding rebuildNodes rebuildNode from
@@ -347,47 +322,93 @@ module _ {S : Setting} {T : Tree} {a : List ℕ} (m : Durable S T a) where
       go others (suc i) e =
           step others (ap (rebuildNode h keys a c s) e) (filled s i c _ (omega arith) e (node-built s i c far (omega arith) e u) u)
 
-  -- ---- the whole cache
+  -- ---- the whole cache, by the control record k
 
   four : slots h ≡ suc (suc (suc (suc (2 * h))))
   unfolding slots
   four = omega arith
 
-  pub blocks : BlocksFrom 4 0 (emptyCache h) 0
-  blocks = blocks-from 4 0 (emptyCache h) 0 (le-refl 4) none-yet
+  module _ {k : List ℕ} (said : Section o k) where
+    -- counter slots from s on
+    pub record BlocksFrom (n s : ℕ) (c : List ℕ) (sum : ℕ) : Type 0 where
+      pub cache : List ℕ
+      pub told : ℕ
+      pub same : rebuildBlocks h k a s (listing s n) c sum ≡ rebuilt cache told
+      pub upto : Upto (s + n) cache
+      pub adds : told ≡ sum + total (countsFrom (λ t. added (shadowOwner h a t)) s n)
 
-  pub cacheAfter : List ℕ
-  cacheAfter = rebuildNodes h keys a 4 (listing 4 (2 * h)) (blocks .cache)
+    blocks-from : (n s : ℕ) (c : List ℕ) (sum : ℕ) → s + n ≤ 4 → Upto s c → BlocksFrom n s c sum
+    unfolding rebuildBlocks rebuildSlot from slots
+    blocks-from zero s c sum p u =
+        record {
+          cache = c;
+          told = sum;
+          same = refl;
+          upto = subst (λ (k : ℕ). Upto k c) (omega arith) u;
+          adds = adds-none (λ t. added (shadowOwner h a t)) s sum;
+        }
+    blocks-from (suc n) s c sum p u = go (λ d t v. blocks-from n (suc s) d t (omega arith) v) (shadowOwner h a s) refl
+      where
+        after : Rebuilt → Rebuilt
+        after r = elim r as (λ z. Rebuilt) [ damaged ↦ damaged | rebuilt d t ↦ rebuildBlocks h k a (suc s) (listing (suc s) n) d t ]
 
-  pub all-slots : Upto (slots h) cacheAfter
-  unfolding cacheAfter
-  all-slots =
-      subst (λ (k : ℕ). Upto k cacheAfter) (omega (arith, four))
-      (nodes-from (2 * h) 4 (blocks .cache) (le-refl 4) (omega (arith, four)) (blocks .upto))
+        step : {d : List ℕ} {t : ℕ} → rebuildSlot h k a c sum s (shadowOwner h a s) ≡ rebuilt d t → t ≡ sum + added (shadowOwner h a s)
+            → BlocksFrom n (suc s) d t → BlocksFrom (suc n) s c sum
+        step e w r =
+            record {
+              cache = r .cache;
+              told = r .told;
+              same = ap after e ∙ r .same;
+              upto = subst (λ (k : ℕ). Upto k (r .cache)) (omega arith) (r .upto);
+              adds = adds-step (λ t. added (shadowOwner h a t)) s n sum _ (r .told) w (r .adds);
+            }
 
-  pub formed-after : Formed h cacheAfter
-  formed-after =
-      record {
-        owners = owned-same (m .owners) (λ s p. all-slots .listed s p p);
-        flag = λ s p. flags s p (owner cacheAfter s) refl;
-        clean = all-slots .bare;
-      }
-    where
-      flags : (s : ℕ) → s < slots h → (o : ℕ) → owner cacheAfter s ≡ o → dirty cacheAfter s ≤ 1
-      flags s p zero e = omega (arith, all-slots .bare s p e)
-      flags s p (suc i) e = omega (arith, all-slots .full s i p e)
+        go : ((d : List ℕ) (t : ℕ) → Upto (suc s) d → BlocksFrom n (suc s) d t) → (i : ℕ) → shadowOwner h a s ≡ i
+            → BlocksFrom (suc n) s c sum
+        go others zero e = step (ap (rebuildSlot h k a c sum s) e) (owner-none (shadowOwner h a s) sum e) (others c sum (skipped s c e u))
+        go others (suc i) e =
+            let level : levelOf s ≡ 0 = level-low s (omega arith) in
+            let index : i < nodes h 0 = subst (λ (k : ℕ). i < nodes h k) level (listed-node s i (omega arith) e .0) in
+            let page : i < pages h = omega (arith, index, nodes-bottom h) in
+            step (ap (rebuildSlot h k a c sum s) e ∙ block-built said c sum s i page) (owner-some (shadowOwner h a s) i sum e)
+            (others (withSlot c s (suc i) 1 (treeNode S T 0 i)) _
+            (filled s i c (treeNode S T 0 i) (omega arith) e (ap (λ (k : ℕ). treeNode S T k i) (sym level)) u))
+
+    pub blocks : BlocksFrom 4 0 (emptyCache h) 0
+    blocks = blocks-from 4 0 (emptyCache h) 0 (le-refl 4) none-yet
+
+    pub cacheAfter : List ℕ
+    cacheAfter = rebuildNodes h keys a 4 (listing 4 (2 * h)) (blocks .cache)
+
+    pub all-slots : Upto (slots h) cacheAfter
+    unfolding cacheAfter
+    all-slots =
+        subst (λ (k : ℕ). Upto k cacheAfter) (omega (arith, four))
+        (nodes-from (2 * h) 4 (blocks .cache) (le-refl 4) (omega (arith, four)) (blocks .upto))
+
+    pub formed-after : Formed h cacheAfter
+    formed-after =
+        record {
+          owners = owned-same (m .owners) (λ s p. all-slots .listed s p p);
+          flag = λ s p. flags s p (owner cacheAfter s) refl;
+          clean = all-slots .bare;
+        }
+      where
+        flags : (s : ℕ) → s < slots h → (o : ℕ) → owner cacheAfter s ≡ o → dirty cacheAfter s ≤ 1
+        flags s p zero e = omega (arith, all-slots .bare s p e)
+        flags s p (suc i) e = omega (arith, all-slots .full s i p e)
 
 -- ---- the whole recovery, once the pending stores are made
 
-module _ {S : Setting} {T : Tree} (x : Module) (deep : depth (x .control) ≡ S .h) (m : Durable S T (x .array))
-    (top : root (x .control) ≡ treeRoot S T) (k : ℕ) where
+module _ {S : Setting} {T : Tree} {o : Opening} (x : Module) (deep : depth (x .control) ≡ S .h) (said : Section o (x .control))
+    (m : Durable S T o (x .array)) (top : root (x .control) ≡ treeRoot S T) (k : ℕ) where
   open Setting S using (keys, h)
 
   abbrev a : List ℕ
   a = x .array
 
   abbrev c : List ℕ
-  c = cacheAfter m
+  c = cacheAfter m said
 
   abbrev os : List ℕ
   os = shadowOwners h a
@@ -410,16 +431,17 @@ module _ {S : Setting} {T : Tree} (x : Module) (deep : depth (x .control) ≡ S 
       let top-in = slot-within h h 0 (le-refl h) in
       ap (λ (b : Bool). cond b (done-with sum) (refuseAfter k x 29 0))
       (eq-eqb _ _ (ap (λ (d : ℕ). tagOf S (current d a c d 0) d 0) deep
-      ∙ ap (λ (b : List ℕ). tagOf S b h 0) (current-fresh m (slots h) c (all-slots m) h 0 (le-refl h) (nodes-some h h) top-in)
+      ∙ ap (λ (b : List ℕ). tagOf S b h 0) (current-fresh m (slots h) c (all-slots m said) h 0 (le-refl h) (nodes-some h h) top-in)
       ∙ sym top))
 
   -- so recovery is done
-  pub recovered : recoverMedia keys k x ≡ done-with (blocks m .told)
+  pub recovered : recoverMedia keys k x ≡ done-with (blocks m said .told)
   unfolding recoverShadow recoverRebuilt cacheAfter
   recovered =
       ap (λ (d : ℕ). recoverShadow keys k x (shadowOwners d a) (badSlot d (shadowOwners d a))) deep
       ∙ ap (recoverShadow keys k x os) (not-bad h (shadowOwner h a) (m .owners))
       ∙ ap (recoverRebuilt keys k x os)
-      (ap₂ (λ (d : ℕ) (l : List ℕ). rebuildBlocks d a 0 l (emptyCache d) 0) deep counter-slots ∙ blocks m .same)
-      ∙ ap₂ (λ (d : ℕ) (l : List ℕ). recoverRoot keys k x (blocks m .told) (rebuildNodes d keys a 4 l (blocks m .cache))) deep node-slots
-      ∙ root-right (blocks m .told)
+      (ap₂ (λ (d : ℕ) (l : List ℕ). rebuildBlocks d (x .control) a 0 l (emptyCache d) 0) deep counter-slots ∙ blocks m said .same)
+      ∙ ap₂ (λ (d : ℕ) (l : List ℕ). recoverRoot keys k x (blocks m said .told) (rebuildNodes d keys a 4 l (blocks m said .cache)))
+      deep node-slots
+      ∙ root-right (blocks m said .told)

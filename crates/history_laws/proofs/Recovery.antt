@@ -18,11 +18,11 @@ use Rattle.calls.specs.Format.{countsFrom}
 use Rattle.calls.specs.History.{Book, storedMinor}
 use Rattle.call_laws.proofs.Judged.{end, opened-on}
 use Rattle.call_laws.proofs.Rebuilt.{recover-kept}
-use Rattle.history_laws.proofs.Setting.{Setting, Tree, treeOf}
+use Rattle.history_laws.proofs.Setting.{Setting, Tree, treeOf, Opening, Section}
 use Rattle.history_laws.proofs.Recovered.{Durable, cacheAfter, all-slots, formed-after, blocks, recovered}
 use Rattle.history_laws.proofs.Told.{told-is}
 use Rattle.history_laws.proofs.Live.{Live}
-use Rattle.history_laws.proofs.State.{Holds, Ready, settled-holds, opens, all-bytes}
+use Rattle.history_laws.proofs.State.{Holds, Ready, settled-holds, tests-pass, all-bytes}
 use Rattle.history_laws.proofs.Pending.{holds-cut}
 use Rattle.history_laws.proofs.Outcome.{madeStores, cutAmong}
 
@@ -32,28 +32,29 @@ module _ (S : Setting) (b : Book) where
   open Setting S using (h)
 
   pub data Ends (out : Called) : Type 0 where
-    cut : (n : ℕ) → out .answer ≡ Cut n → Holds S b (out .after) → Ends out
-    rebuilt : (n told : ℕ) → out .answer ≡ Done n told
-        → told ≡ total (countsFrom (λ i. b .count i - storedMinor h (out .after) i) 0 (lines h)) → Ready S b (out .after) → Ends out
+    cut : {o : Opening} (n : ℕ) → out .answer ≡ Cut n → Holds S b o (out .after) → Ends out
+    rebuilt : {o : Opening} (n told : ℕ) → out .answer ≡ Done n told
+        → told ≡ total (countsFrom (λ i. b .count i - storedMinor h (out .after) i) 0 (lines h)) → Ready S b o (out .after) → Ends out
 
 -- the rebuilt cache goes with the array
-rebuilt-live : {S : Setting} {T : Tree} {a : List ℕ} (m : Durable S T a) → Below 256 (cacheAfter m) → Live S T a (cacheAfter m)
-rebuilt-live m plain =
-    let u = all-slots m in
+rebuilt-live : {S : Setting} {T : Tree} {o : Opening} {a k : List ℕ} (m : Durable S T o a) (said : Section o k)
+    → Below 256 (cacheAfter m said) → Live S T o a (cacheAfter m said)
+rebuilt-live m said plain =
+    let u = all-slots m said in
     record {
       durable = m;
-      fit = record { sized = u .sized; formed = formed-after m; bytes = plain };
+      fit = record { sized = u .sized; formed = formed-after m said; bytes = plain };
       listed = λ s q. u .listed s q q;
       fresh = λ s i q o. u .fresh s i q q (sym (u .listed s q q) ∙ o);
       clean = λ s i q o z. absurd (omega (arith, u .full s i q o, z));
     }
 
-module _ {S : Setting} {b : Book} {m : Module} (held : Holds S b m) (allowance : ℕ) where
+module _ {S : Setting} {b : Book} {o : Opening} {m : Module} (held : Holds S b o m) (allowance : ℕ) where
   open Setting S using (keys)
 
   no-refusal : recoveryRefusal keys m ≡ 0
   unfolding recoveryRefusal
-  no-refusal = sym (opened-on [] (opens held) end)
+  no-refusal = sym (opened-on [] (tests-pass held) end)
 
   abbrev xs : List Store
   xs = pendingStores (m .control)
@@ -70,17 +71,26 @@ module _ {S : Setting} {b : Book} {m : Module} (held : Holds S b m) (allowance :
   abbrev settled-media : Media
   settled-media = storeAll (mediaOf m) xs
 
-  abbrev d : Durable S (treeOf b) (settled-media .array)
+  abbrev d : Durable S (treeOf b) o (settled-media .array)
   d = held .settled .keeps .durable
 
+  abbrev said : Section o (settled-media .control)
+  said = held .settled .section
+
+  abbrev cache : List ℕ
+  cache = cacheAfter d said
+
+  abbrev told : ℕ
+  told = blocks d said .told
+
   abbrev ended : Called
-  ended = record { answer = Done (length xs) (blocks d .told); after = withMedia settled-media (cacheAfter d) }
+  ended = record { answer = Done (length xs) told; after = withMedia settled-media cache }
 
   done-is : length xs ≤ allowance → isCut allowance xs ≡ false → recover keys allowance m ≡ ended
   done-is p e =
       opened ∙ ap stored e
       ∙ ap (λ (l : List Store). recoverMedia keys (length xs) (withMedia (storeAll (mediaOf m) l) (m .cache))) (made-all allowance xs p)
-      ∙ recovered (withMedia settled-media (m .cache)) (held .settled .deep) d (held .settled .top) (length xs)
+      ∙ recovered (withMedia settled-media (m .cache)) (held .settled .deep) said d (held .settled .top) (length xs)
 
   pub ends : Ends S b (recover keys allowance m)
   unfolding storedMinor
@@ -90,12 +100,12 @@ module _ {S : Setting} {b : Book} {m : Module} (held : Holds S b m) (allowance :
       go true e = subst (Ends S b) (sym (opened ∙ ap stored e)) (cut (length (made allowance xs)) refl (holds-cut held allowance))
       go false e =
           let same = done-is (ltb-false allowance (length xs) e) e in
-          let plain : Below 256 (cacheAfter d) =
+          let plain : Below 256 cache =
           subst (λ (c : Called). Below 256 (c .after .cache)) same (recover-kept keys allowance m (all-bytes held) .bytes .cache) in
           subst (Ends S b) (sym same)
-          (rebuilt (length xs) (blocks d .told) refl (told-is d (blocks d .told) (blocks d .adds))
+          (rebuilt (length xs) told refl (told-is d told (blocks d said .adds))
           (record {
-            holds = settled-holds (cacheAfter d) (all-slots d .sized) plain (held .settled);
+            holds = settled-holds cache (all-slots d said .sized) plain (held .settled);
             idle = held .settled .idle;
-            live = rebuilt-live d plain;
+            live = rebuilt-live d said plain;
           }))

@@ -2,7 +2,7 @@
 use mathlib.Core.Path.{_≡_, refl, sym, ap, _∙_}
 use mathlib.Core.Bool.{Bool, true, false, cond}
 use mathlib.Core.List.{List, []}
-use Prim.Native.Nat.{ℕ, zero, suc, _+_}
+use Prim.Native.Nat.{ℕ, zero, suc, _+_, _-_, _^_}
 use native.Mathlib.Omega.{arith}
 use lib.Dec.{eqb}
 use lib.ListN.{length, replicate, take, drop}
@@ -10,6 +10,7 @@ use lib.Seq.{take-nil}
 use Rattle.answer.specs.declared.Answer.{Answer}
 use Rattle.answer.specs.declared.Answer.the-variants.{Done, Blank, Cut, Refused}
 use Rattle.answer.specs.Answer.{codeOf, storesOf}
+use Rattle.counter.specs.Counter.{major}
 use Rattle.control.specs.Control.{Cell, depth, root}
 use Rattle.cache.specs.declared.Found.{Found}
 use Rattle.cache.specs.declared.Found.the-variants.{Nothing, At}
@@ -21,6 +22,8 @@ use Rattle.calls.specs.Path.{Loaded, loaded, differs}
 use Rattle.calls.specs.Call.{Module, Called, mediaOf, withMedia, storing, refuse, pathOf, accessRefusal}
 use Rattle.calls.specs.Read.{answered, refusedRead, lineMinor, sideOk, lineText, readLoaded, readPath, readJudged, read}
 use Rattle.calls.specs.Write.{writeStores, writtenCache, writeLoaded, writePath, writeJudged, write}
+use Rattle.calls.specs.Turn.{turnRefusal, blockOf, turnPlaces, badLine, turnBatches, storesFor, turnedCache}
+use Rattle.calls.specs.Turn.{turnChecked, turnLoaded, turnPath, turnJudged, turn, pagePath}
 use Rattle.calls.specs.Recovery.{refuseAfter, Rebuilt, rebuilt, damaged, rebuildBlocks, rebuildNodes, recoveryRefusal}
 use Rattle.calls.specs.Recovery.{recoverRoot, recoverRebuilt, recoverShadow, recoverMedia, recoverJudged, recover}
 use Rattle.history_laws.proofs.Outcome.{no-elements, madeStores, cutAmong, cases}
@@ -106,6 +109,31 @@ module _ (m : Module) where
         go zero = write-path (pathOf keys line m)
         go (suc k) = λ n a b e. refl
 
+  module _ (keys : List ℕ) (p allowance : ℕ) where
+    turn-checked : (c : List ℕ) (x : List Cell) (f : Found) → Same m (turnChecked keys p allowance m c x f)
+    unfolding turnChecked
+    turn-checked c x (At i) = λ n a b e. refl
+    turn-checked c x Nothing =
+        let xs = storesFor (turnBatches keys p m c x) in
+        storing-same allowance xs (Done (length xs) 0) (turnedCache (depth (m .control)) keys c p) (λ n a b e. done-not e)
+
+    turn-path : (r : Loaded) → Same m (turnPath keys p allowance m r)
+    unfolding turnPath turnLoaded
+    turn-path (differs l i) = λ n a b e. refl
+    turn-path (loaded c x) = go (eqb (major (blockOf c p)) (2 ^ 64 - 1)) (badLine keys (m .array) c p (turnPlaces (m .control) c p))
+      where
+        go : (s : Bool) (f : Found) → Same m (cond s (refuse m 31 0 0) (turnChecked keys p allowance m c x f))
+        go true f = λ n a b e. refl
+        go false f = turn-checked c x f
+
+    pub turn-same : Same m (turn keys p allowance m)
+    unfolding turnJudged
+    turn-same = go (turnRefusal keys p m)
+      where
+        go : (k : ℕ) → Same m (turnJudged k keys p allowance m)
+        go zero = turn-path (pagePath keys p m)
+        go (suc k) = λ n a b e. refl
+
 -- ---- recovery: what it refuses after its stores leaves what they left
 
 record Left (k : ℕ) (x : Module) (out : Called) : Type 0 where
@@ -139,7 +167,7 @@ module _ (keys : List ℕ) (k : ℕ) (x : Module) where
   left-shadow : (os : List ℕ) (r : Found) → Left k x (recoverShadow keys k x os r)
   unfolding recoverShadow
   left-shadow os (At s) = left-refused k x 27 s
-  left-shadow os Nothing = left-rebuilt os (rebuildBlocks h (x .array) 0 (take 4 os) (emptyCache h) 0)
+  left-shadow os Nothing = left-rebuilt os (rebuildBlocks h (x .control) (x .array) 0 (take 4 os) (emptyCache h) 0)
 
   left-media : Left k x (recoverMedia keys k x)
   left-media = left-shadow (shadowOwners h (x .array)) (badSlot h (shadowOwners h (x .array)))

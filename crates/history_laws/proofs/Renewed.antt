@@ -1,24 +1,29 @@
--- The cache after a write: the path of the page is that of the tree of the new counts, dirty but for the block's flag; owners and all other
--- slots stay. Assumes nothing.
+-- The cache after a path is renewed: that of the page is the new tree's, dirty but for the block's flag; owners and all other slots stay.
+-- It goes with an array that keeps the new tree. Assumes nothing.
 use mathlib.Core.Path.{_≡_, refl, sym, ap, _∙_, subst}
 use mathlib.Core.Logic.{_⊎_, inl, inr}
 use mathlib.Core.List.{List}
-use Prim.Native.Nat.{ℕ, zero, suc, _^_, _≤_, _<_}
+use Prim.Native.Nat.{ℕ, zero, suc, _^_, _≤_, _<_, zero-le}
 use native.Mathlib.Nat.{le-refl}
 use native.Mathlib.Omega.{arith}
 use lib.ListN.{length}
 use Rattle.words.proofs.Digits.{Below}
 use Rattle.words.proofs.Order.{eq-or-not}
-use Rattle.memory_map.specs.Map.{pages, slots, onPath}
+use Rattle.memory_map.specs.Map.{pages, nodes, slots, onPath}
+use Rattle.memory_map.specs.Map.Item.{node}
 use Rattle.memory_map.proofs.Laws.{path-bottom, nodes-small, path-within}
 use Rattle.slot_map.specs.Slots.{cacheLength, slotOf, levelOf}
-use Rattle.slot_map.proofs.Laws.{slot-within, level-slot}
-use Rattle.cache.specs.Cache.{owner, dirty, content, withSlot}
+use Rattle.slot_map.proofs.Laws.{slot-within, level-slot, level-within}
+use Rattle.cache.specs.Cache.{owner, dirty, content, shadowOwner, withSlot}
+use Rattle.cache.proofs.Laws.{owned-same, slot-holds}
 use Rattle.cache.proofs.Laws.{length-with, below-with, owner-same, dirty-same, content-same, owner-other, dirty-other, content-other}
 use Rattle.calls.specs.Path.{renewed, renewPath}
 use Rattle.call_laws.proofs.Loads.{Fit}
-use Rattle.history_laws.proofs.Setting.{Setting, Tree, treeNode}
-use Rattle.history_laws.proofs.Tree.{tree-bytes, tree-length, Path, renewed-fresh}
+use Rattle.history_laws.proofs.Setting.{Setting, Tree, treeNode, nodeIn, Opening}
+use Rattle.history_laws.proofs.Tree.{tree-bytes, tree-length, Path, off-path, renewed-fresh}
+use Rattle.history_laws.proofs.Recovered.{Durable}
+use Rattle.history_laws.proofs.Stores.{first, second}
+use Rattle.history_laws.proofs.Live.{Live}
 
 -- the cache c holds the path of page p in the tree T, to be renewed to that of U with this flag for its block
 pub record Renewing (S : Setting) (T U : Tree) (p : ℕ) (c : List ℕ) (flag : ℕ) : Type 0 where
@@ -128,3 +133,110 @@ module _ {S : Setting} {T U : Tree} {p : ℕ} {c : List ℕ} {flag : ℕ} (w : R
       (after-next 0 q c none-yet (treeNode S U 0 (onPath p 0)) refl)
   after-path (suc l) q =
       after-next (suc l) q _ (after-path l (omega arith)) (renewed keys c p (treeNode S U 0 p) (suc l)) (renewed-fresh (w .path) (suc l) q)
+
+-- ---- array and cache together
+
+-- the cache c goes with the array a, and its path is renewed once the array is d, which keeps the tree U, and its block if the flag is 0
+pub record Renewal (S : Setting) (T U : Tree) (o r : Opening) (p : ℕ) (a c : List ℕ) (flag : ℕ) (d : List ℕ) : Type 0 where
+  pub live : Live S T o a c
+  pub renewing : Renewing S T U p c flag
+  pub durable : Durable S U r d
+  pub shadows : (s : ℕ) → s < slots (S .h) → shadowOwner (S .h) d s ≡ shadowOwner (S .h) a s
+  pub others : (k i : ℕ) → k ≤ S .h → i < nodes (S .h) k → (node k i ≡ node 0 p → ⊥) → nodeIn S d k i ≡ nodeIn S a k i
+  pub now : flag ≡ 0 → nodeIn S d 0 p ≡ treeNode S U 0 p
+
+module _ {S : Setting} {T U : Tree} {o r : Opening} {p : ℕ} {a c : List ℕ} {flag : ℕ} {d : List ℕ}
+    (w : Renewal S T U o r p a c flag d) where
+  open Setting S using (keys, h)
+  open Renewal w using (live as v, renewing, shadows, others)
+  open Renewing renewing using (held, path)
+
+  abbrev after : List ℕ
+  after = renewPath keys c p (treeNode S U 0 p) flag h
+
+  u : After renewing (suc h) after
+  u = after-path renewing h (le-refl h)
+
+  -- the path's slot at the level of slot s
+  abbrev spot : ℕ → ℕ
+  spot s = slotOf (levelOf s) (onPath p (levelOf s))
+
+  -- a slot on the path, and one off it
+  on-path : (s : ℕ) → s < slots h → s ≡ spot s → (P : ℕ → ℕ → Type 0) → ((k : ℕ) → k ≤ h → P (slotOf k (onPath p k)) k) → P s (levelOf s)
+  on-path s q e P each = subst (λ (t : ℕ). P t (levelOf s)) (sym e) (each (levelOf s) (level-within h s q))
+
+  off-slot : (s : ℕ) → (s ≡ spot s → ⊥) → (k : ℕ) → k ≤ h → s ≡ slotOf k (onPath p k) → ⊥
+  off-slot s e k q z =
+      let level : levelOf s ≡ k = ap levelOf z ∙ level-slot k (onPath p k) in
+      e (z ∙ ap (λ (j : ℕ). slotOf j (onPath p j)) (sym level))
+
+  away-slot : (s : ℕ) → s < slots h → (s ≡ spot s → ⊥) → (content after s ≡ content c s) × (dirty after s ≡ dirty c s)
+  away-slot s q e = u .off s q (λ k r. off-slot s e k (omega arith))
+
+  index-off : (s i : ℕ) → s < slots h → owner c s ≡ suc i → (s ≡ spot s → ⊥) → i ≡ onPath p (levelOf s) → ⊥
+  index-off s i q o e z = e (sym (slot-holds h c s i (v .fit .formed) q o .1 .0) ∙ ap (slotOf (levelOf s)) z)
+
+  path-flag : (k : ℕ) → k ≤ h → dirty after (slotOf k (onPath p k)) ≤ 1
+  path-flag k q = omega (arith, u .flags k (omega arith), flag-small flag (renewing .small) k)
+
+  flags : (s : ℕ) → s < slots h → (s ≡ spot s) ⊎ (s ≡ spot s → ⊥) → dirty after s ≤ 1
+  flags s q (inl e) = on-path s q e (λ t k. dirty after t ≤ 1) path-flag
+  flags s q (inr e) = omega (arith, away-slot s q e .1, v .fit .formed .flag s q)
+
+  cleans : (s : ℕ) → s < slots h → owner after s ≡ 0 → (s ≡ spot s) ⊎ (s ≡ spot s → ⊥) → dirty after s ≡ 0
+  cleans s q o (inl e) =
+      absurd (on-path s q e (λ t k. owner c t ≡ 0 → ⊥) (λ k r z. omega (arith, held k r, z)) (sym (u .own s q) ∙ o))
+  cleans s q o (inr e) = away-slot s q e .1 ∙ v .fit .formed .clean s q (sym (u .own s q) ∙ o)
+
+  fit-renewed : Fit h after
+  fit-renewed =
+      record {
+        sized = u .sized;
+        formed = record {
+          owners = owned-same (v .fit .formed .owners) (u .own);
+          flag = λ s q. flags s q (eq-or-not s (spot s));
+          clean = λ s q o. cleans s q o (eq-or-not s (spot s));
+        };
+        bytes = u .bytes;
+      }
+
+  fresh-renewed : (s i : ℕ) → s < slots h → owner after s ≡ suc i
+      → (s ≡ spot s) ⊎ (s ≡ spot s → ⊥) → content after s ≡ treeNode S U (levelOf s) i
+  fresh-renewed s i q o (inl e) =
+      on-path s q e (λ t k. owner c t ≡ suc i → content after t ≡ treeNode S U k i)
+      (λ k r z. let same : onPath p k ≡ i = omega (arith, held k r, z) in u .on k (omega arith) ∙ ap (treeNode S U k) same)
+      (sym (u .own s q) ∙ o)
+  fresh-renewed s i q o (inr e) =
+      let o' = sym (u .own s q) ∙ o in
+      away-slot s q e .0 ∙ v .fresh s i q o' ∙ off-path S T U p (path .same) (levelOf s) i (index-off s i q o' e)
+
+  path-clean : (k i : ℕ) → k ≤ h → owner c (slotOf k (onPath p k)) ≡ suc i → dirty after (slotOf k (onPath p k)) ≡ 0
+      → nodeIn S d k i ≡ treeNode S U k i
+  unfolding flagAt
+  path-clean (suc k) i q o z = absurd (omega (arith, u .flags (suc k) (omega arith), z))
+  path-clean zero i q o z =
+      let same : p ≡ i = sym (path-bottom p) ∙ omega (arith, held 0 zero-le, o) in
+      subst (λ (j : ℕ). nodeIn S d 0 j ≡ treeNode S U 0 j) same (w .now (sym (u .flags 0 (omega arith)) ∙ z))
+
+  clean-renewed : (s i : ℕ) → s < slots h → owner after s ≡ suc i → dirty after s ≡ 0 → (s ≡ spot s) ⊎ (s ≡ spot s → ⊥)
+      → nodeIn S d (levelOf s) i ≡ treeNode S U (levelOf s) i
+  unfolding first second
+  clean-renewed s i q o z (inl e) =
+      on-path s q e (λ t k. owner c t ≡ suc i → dirty after t ≡ 0 → nodeIn S d k i ≡ treeNode S U k i)
+      (λ k r x y. path-clean k i r x y) (sym (u .own s q) ∙ o) z
+  clean-renewed s i q o z (inr e) =
+      let o' = sym (u .own s q) ∙ o in
+      let away = index-off s i q o' e in
+      others (levelOf s) i (level-within h s q) (slot-holds h c s i (v .fit .formed) q o' .0)
+      (λ w. away (ap second w ∙ sym (path-bottom p) ∙ ap (onPath p) (sym (ap first w))))
+      ∙ v .clean s i q o' (sym (away-slot s q e .1) ∙ z) ∙ off-path S T U p (path .same) (levelOf s) i away
+
+  pub live-renewed : Live S U r d after
+  live-renewed =
+      record {
+        durable = w .durable;
+        fit = fit-renewed;
+        listed = λ s q. u .own s q ∙ v .listed s q ∙ sym (shadows s q);
+        fresh = λ s i q o. fresh-renewed s i q o (eq-or-not s (spot s));
+        clean = λ s i q o z. clean-renewed s i q o z (eq-or-not s (spot s));
+      }

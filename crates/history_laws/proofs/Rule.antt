@@ -1,7 +1,7 @@
 -- The history rule: in every allowed list from a done format, a recovery with the same keys is not refused, and one that is done restores
 -- what the book of the list up to it says. Assumes nothing.
-use mathlib.Core.Path.{_≡_, refl, sym, ap, _∙_, subst}
-use mathlib.Core.Bool.{Bool, true, false, cond}
+use mathlib.Core.Path.{_≡_, refl, sym, ap, ap₂, _∙_, subst}
+use mathlib.Core.Bool.{Bool, true, false, not, cond}
 use mathlib.Core.List.{List, _∷_, _++_}
 use mathlib.Core.Option.{Option, none, some}
 use Prim.Native.Nat.{ℕ, zero, suc, _+_, _-_, _*_, _≤_, _<_, zero-le}
@@ -13,26 +13,28 @@ use Rattle.counter.specs.Counter.{minor, phaseOf}
 use Rattle.answer.specs.declared.Answer.{Answer}
 use Rattle.answer.specs.declared.Answer.the-variants.{Done, Cut}
 use Rattle.answer.specs.Answer.{codeOf, storesOf, firstOf}
+use Rattle.control.specs.Control.{isOpen}
 use Rattle.cache.specs.Cache.{formed}
 use Rattle.cache.proofs.Laws.{facts-formed}
 use Rattle.journal.specs.Journal.{Store, isCut}
-use Rattle.calls.specs.Call.{Module, Called, mediaOf, storing, accessRefusal, refuse}
+use Rattle.calls.specs.Call.{Module, Called, mediaOf, storing, judged, accessRefusal, refuse}
 use Rattle.calls.specs.Read.{Reading, answered, read}
 use Rattle.calls.specs.Recovery.{recover, total}
 use Rattle.calls.specs.Format.{formatRefusal, formatted, format, countsFrom}
 use Rattle.calls.specs.History.{recovers, Book, emptyBook, Allowed, moduleAfter, bookOf, counter}
 use Rattle.calls.specs.History.{storedMinor, NotCut, Gives, Restored, NotRefused, HistoryRule}
-use Rattle.call_laws.proofs.Judged.{is-formed, format-accepted}
-use Rattle.history_laws.proofs.Setting.{Setting}
+use Rattle.call_laws.proofs.Judged.{entry-on, format-accepted}
+use Rattle.history_laws.proofs.Setting.{Setting, Opening}
+use Rattle.history_laws.proofs.Opening.{closed-line}
 use Rattle.history_laws.proofs.Tree.{counts-agree, fresh-minor}
 use Rattle.history_laws.proofs.Live.{live-current}
-use Rattle.history_laws.proofs.State.{Settled, Holds, Ready, settled-now, opens}
+use Rattle.history_laws.proofs.State.{Settled, Holds, Ready, settled-now, tests-pass}
 use Rattle.history_laws.proofs.First.{first-ready}
 use Rattle.history_laws.proofs.Outcome.{cutAmong, allStored}
 use Rattle.history_laws.proofs.Reading.{Access, walk, stores, reads-blank, reads-text}
 use Rattle.history_laws.proofs.Recovery.{Ends, cut, rebuilt, ends}
 use Rattle.history_laws.proofs.Refused.{done-not, cut-not}
-use Rattle.history_laws.proofs.Events.{led}
+use Rattle.history_laws.proofs.Events.{ready-inv, led}
 
 -- ---- what a read shows
 
@@ -50,13 +52,13 @@ gives o allowance m xs answer c t out ok = go (isCut allowance xs)
     go true nay = absurd (nay _ refl)
     go false nay = ok
 
-module _ {S : Setting} {b : Book} {m : Module} (r : Ready S b m) where
+module _ {S : Setting} {b : Book} {o : Opening} {m : Module} (r : Ready S b o m) where
   open Setting S using (keys, h)
 
-  abbrev v : Holds S b m
+  abbrev v : Holds S b o m
   v = r .holds
 
-  was : Settled S b (mediaOf m)
+  was : Settled S b o (mediaOf m)
   was = settled-now v (r .idle)
 
   counter-is : (n : ℕ) → n < lines h → counter h m n ≡ b .count n
@@ -67,30 +69,32 @@ module _ {S : Setting} {b : Book} {m : Module} (r : Ready S b m) where
       (live-current (r .live) 0 (pageOf n) zero-le (omega (arith, page-inside h n q, nodes-bottom h)))
       ∙ fresh-minor S (was .keeps .durable .small) (pageOf n) (placeOf n) (omega arith) ∙ ap (b .count) place
 
-  opened : (n : ℕ) (out : List ℕ) → n < lines h → length out ≡ 64 → accessRefusal keys n out m ≡ 0
-  opened n out q e =
-      sym (is-formed keys n out m
-      (record { opening = opens v; buffer = e; inside = subst (λ (d : ℕ). n < lines d) (sym (v .deep)) q; idle = r .idle })
-      (ap (λ (d : ℕ). formed d (m .cache)) (v .deep) ∙ facts-formed h (m .cache) (r .live .fit .formed)))
+  opened : (n : ℕ) (out : List ℕ) → n < lines h → isOpen (m .control) (pageOf n) ≡ false → length out ≡ 64 → accessRefusal keys n out m ≡ 0
+  unfolding judged
+  opened n out q u e =
+      let fit = ap (λ (d : ℕ). formed d (m .cache)) (v .deep) ∙ facts-formed h (m .cache) (r .live .fit .formed) in
+      sym (entry-on keys n out m
+      (record { opening = tests-pass v; buffer = e; inside = subst (λ (d : ℕ). n < lines d) (sym (v .deep)) q; idle = r .idle })
+      (sym (ap₂ {C = ℕ} (λ (s t : Bool). cond (not s) 23 (cond t 30 0)) fit u)))
 
-  module _ (n allowance : ℕ) (out : List ℕ) (q : n < lines h) (e : length out ≡ 64) where
-    w : Access S b m n
-    w = record { ready = r; inside = q }
+  module _ (n allowance : ℕ) (out : List ℕ) (q : n < lines h) (u : isOpen (m .control) (pageOf n) ≡ false) (e : length out ≡ 64) where
+    w : Access S b o m n
+    w = record { ready = r; inside = q; not-turned = closed-line (was .section) n u }
 
     -- what a read of it shows, if it is not cut
     abbrev Shows : Option (List ℕ) → Reading → Type 0
-    Shows o x = NotCut (x .called .answer) → Gives o x
+    Shows t x = NotCut (x .called .answer) → Gives t x
 
     text-is : Shows (b .text n) (read keys n allowance out m)
     unfolding Gives storesOf
     text-is = go (b .text n) refl
       where
-        go : (o : Option (List ℕ)) → b .text n ≡ o → Shows o (read keys n allowance out m)
+        go : (x : Option (List ℕ)) → b .text n ≡ x → Shows x (read keys n allowance out m)
         go none z =
-            subst (Shows none) (sym (reads-blank w out (opened n out q e) allowance z))
+            subst (Shows none) (sym (reads-blank w out (opened n out q u e) allowance z))
             (gives none allowance m (stores w) _ (walk w .cache) _ out (refl, refl))
         go (some t) z =
-            subst (Shows (some t)) (sym (reads-text w out (opened n out q e) allowance t z))
+            subst (Shows (some t)) (sym (reads-text w out (opened n out q u e) allowance t z))
             (gives (some t) allowance m (stores w) _ (walk w .cache) t out (refl, refl))
 
   near-is : (n : ℕ) → n < lines h → (storedMinor h m n ≤ counter h m n) × (counter h m n ≤ storedMinor h m n + 3)
@@ -108,7 +112,7 @@ module _ {S : Setting} {b : Book} {m : Module} (r : Ready S b m) where
   restored sum e =
       record {
         counters = counter-is;
-        allCounters = ap total (counts-agree (counter h m) (b .count) 0 (lines h) (λ n p q. counter-is n (omega arith))) ∙ was .keeps .sum;
+        allCounters = ap total (counts-agree (counter h m) (b .count) 0 (lines h) (λ n p q. counter-is n (omega arith)));
         tree = live-current (r .live);
         top = was .top;
         texts = text-is;
@@ -156,6 +160,5 @@ history-rule keys h given es rest allowance plain = go (formatRefusal keys h giv
     go zero e yea ok =
         let f = format-accepted keys h given e in
         let S : Setting = record { keys = keys; keyed = record { at = plain }; k48 = f .keys48; h = h; low = f .low; high = f .high } in
-        let l = led S es (recovers keys allowance ∷ rest) false emptyBook _
-        (record { holds = first-ready S .holds; ready = λ z. first-ready S }) ok in
+        let l = led S es (recovers keys allowance ∷ rest) false emptyBook _ (ready-inv S (first-ready S)) ok in
         let r = ends (l .inv .holds) allowance in (never-refused _ r, restores _ r)

@@ -9,7 +9,7 @@ use native.Mathlib.Nat.{le-refl}
 use native.Mathlib.Omega.{arith}
 use lib.Dec.{lit<}
 use lib.ListN.{length, getD, replicate, take, length-append}
-use lib.Seq.{take-at}
+use lib.Seq.{take-at, take-all}
 use Rattle.words.specs.Bytes.{fromLe, toLe, part, put}
 use Rattle.words.proofs.Digits.{length-digits, number-exact}
 use Rattle.words.proofs.Order.{lt-eq-gt, eq-or-not}
@@ -24,7 +24,7 @@ use Rattle.counter.specs.Counter.{major, minor, phaseOf}
 use Rattle.cache.specs.Cache.{cellContent, shadowOwner, topSlot}
 use Rattle.cache.proofs.Laws.{owned-same}
 use Rattle.calls.specs.Recovery.{phaseByte}
-use Rattle.history_laws.proofs.Setting.{Setting, Tree, treeNode, nodeIn}
+use Rattle.history_laws.proofs.Setting.{Setting, Tree, treeNode, nodeIn, Opening}
 use Rattle.history_laws.proofs.Tree.{tree-length, fresh-major, fresh-minor}
 use Rattle.history_laws.proofs.Recovered.{Durable}
 
@@ -59,6 +59,9 @@ in-shadow h s p = p
 pub in-line : (h n : ℕ) → n < lines h → InMap h (line n)
 unfolding InMap
 in-line h n p = p
+
+pub page-in : (h p : ℕ) → p < pages h → p < nodes h 0
+page-in h p q = omega (arith, nodes-bottom h)
 
 pub line-cell : (h n : ℕ) → cellOf h (line n) ≡ n
 unfolding cellOf
@@ -119,7 +122,7 @@ module _ {h : ℕ} {a : List ℕ} {x : Item} {bs : List ℕ} (w : Put h a x bs) 
         byte : (l : List ℕ) (at : ℕ) → getD l at 0 ≡ getD (part l at 1) 0 0
         byte l at = let here : at ≡ at + 0 = omega arith in ap (λ (k : ℕ). getD l k 0) here ∙ sym (getD-part l at 1 0 (lit< tt))
 
-  pub line-apart : (n : ℕ) → n < lines h → (line n ≡ x → ⊥) → part after (72 * n) 72 ≡ part a (72 * n) 72
+  line-apart : (n : ℕ) → n < lines h → (line n ≡ x → ⊥) → part after (72 * n) 72 ≡ part a (72 * n) 72
   line-apart n p e =
       subst (λ (k : ℕ). part after (72 * k) 72 ≡ part a (72 * k) 72) (line-cell h n) (other-part (line n) (in-line h n p) e 72 (le-refl 72))
 
@@ -152,6 +155,18 @@ module _ {h : ℕ} {a : List ℕ} {x : Item} {bs : List ℕ} (w : Put h a x bs) 
   unfolding kind
   shadows-apart e s p = shadow-apart s p (apart (shadow s) x (λ z. e (sym z)))
 
+-- ---- a data cell stored
+
+module _ {h : ℕ} {a : List ℕ} {n : ℕ} {bs : List ℕ} (w : Put h a (line n) bs) where
+  pub row-same : part (put a (72 * cellOf h (line n)) bs) (72 * n) 72 ≡ bs
+  row-same =
+      subst (λ (k : ℕ). part (put a (72 * cellOf h (line n)) bs) (72 * k) 72 ≡ bs) (line-cell h n)
+      (same-part w 72 (le-refl 72) ∙ take-all 72 bs (omega (arith, w .size)))
+
+  pub row-other : (x : ℕ) → x < lines h → (x ≡ n → ⊥) → part (put a (72 * cellOf h (line n)) bs) (72 * x) 72 ≡ part a (72 * x) 72
+  unfolding first
+  row-other x q e = line-apart w x q (λ z. e (ap first z))
+
 -- ---- a node of the fresh tree stored
 
 abbrev pub nodeBytes : Setting → Tree → ℕ → ℕ → List ℕ
@@ -166,7 +181,7 @@ node-put S T a l i whole p q =
       size = length-append (treeNode S T l i) (replicate 8 0) ∙ ap (λ (n : ℕ). n + 8) (tree-length S T l i);
     }
 
-module _ {S : Setting} {T : Tree} {a : List ℕ} (m : Durable S T a) where
+module _ {S : Setting} {T : Tree} {o : Opening} {a : List ℕ} (m : Durable S T o a) where
   open Setting S using (keys, h)
   open Tree T using (count)
 
@@ -213,10 +228,7 @@ module _ {S : Setting} {T : Tree} {a : List ℕ} (m : Durable S T a) where
     unfolding kind
     node-lines = lines-apart w (λ (q : _≡_ {A = ℕ} 1 0). omega arith)
 
-    page-in : (p : ℕ) → p < pages h → p < nodes h 0
-    page-in p q = omega (arith, nodes-bottom h)
-
-    pub node-durable : Durable S T with-node
+    pub node-durable : Durable S T o with-node
     unfolding kind
     node-durable =
         record {
@@ -224,12 +236,13 @@ module _ {S : Setting} {T : Tree} {a : List ℕ} (m : Durable S T a) where
           small = m .small;
           owners = owned-same (m .owners) shadow-kept;
           stored = λ k j p q o. stored k j p q o (eq-or-not (shadowOwner h a (slotOf k j)) (suc j));
-          majors = λ p q. node-cases (λ b. major b ≡ 0) 0 p zero-le (page-in p q) (fresh-major S (m .small) p) (m .majors p q);
-          behind = λ p j q r. node-cases (λ b. minor b j ≤ count (64 * p + j)) 0 p zero-le (page-in p q)
+          majors = λ p q. node-cases (λ b. major b ≡ T .major p) 0 p zero-le (page-in h p q) (fresh-major S (m .small) p) (m .majors p q);
+          behind = λ p j q r. node-cases (λ b. minor b j ≤ count (64 * p + j)) 0 p zero-le (page-in h p q)
               (omega (arith, fresh-minor S (m .small) p j r)) (m .behind p j q r);
-          near = λ p j q r. node-cases (λ b. count (64 * p + j) ≤ minor b j + phaseOf (count (64 * p + j))) 0 p zero-le (page-in p q)
+          near = λ p j q r. node-cases (λ b. count (64 * p + j) ≤ minor b j + phaseOf (count (64 * p + j))) 0 p zero-le (page-in h p q)
               (omega (arith, fresh-minor S (m .small) p j r)) (m .near p j q r);
           phases = λ n p. phases-apart w (λ (q : _≡_ {A = ℕ} 1 0). omega arith) n p ∙ m .phases n p;
+          open-block = λ p q e. fresh-kept 0 p zero-le (page-in h p q) (m .open-block p q e);
         }
       where
         stored : (k j : ℕ) → k ≤ h → j < nodes h k → (shadowOwner h with-node (slotOf k j) ≡ suc j → ⊥)
@@ -303,9 +316,9 @@ module _ {S : Setting} {T : Tree} {a : List ℕ} (m : Durable S T a) where
         (v .old j (subst (λ (n : ℕ). j < nodes h n) level q) (ap (shadowOwner h a) (sym z) ∙ e))
 
     page-there : (p : ℕ) → p < pages h → nodeIn S with-shadow 0 p ≡ nodeIn S a 0 p
-    page-there p q = nodes-kept 0 p zero-le (omega (arith, nodes-bottom h))
+    page-there p q = nodes-kept 0 p zero-le (page-in h p q)
 
-    pub shadow-durable : Durable S T with-shadow
+    pub shadow-durable : Durable S T o with-shadow
     unfolding kind
     shadow-durable =
         record {
@@ -322,4 +335,5 @@ module _ {S : Setting} {T : Tree} {a : List ℕ} (m : Durable S T a) where
           near = λ p j q r. subst (λ (b : List ℕ). count (64 * p + j) ≤ minor b j + phaseOf (count (64 * p + j))) (sym (page-there p q))
               (m .near p j q r);
           phases = λ n p. phases-apart u (λ (q : _≡_ {A = ℕ} 2 0). omega arith) n p ∙ m .phases n p;
+          open-block = λ p q e. page-there p q ∙ m .open-block p q e;
         }

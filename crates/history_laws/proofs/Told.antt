@@ -21,7 +21,7 @@ use Rattle.counter.proofs.Laws.{length-minors}
 use Rattle.cache.specs.Cache.{shadowOwner}
 use Rattle.calls.specs.Recovery.{total}
 use Rattle.calls.specs.Format.{countsFrom}
-use Rattle.history_laws.proofs.Setting.{Setting, Tree, nodeIn}
+use Rattle.history_laws.proofs.Setting.{Setting, Tree, nodeIn, Opening}
 use Rattle.history_laws.proofs.Tree.{length-counts, counts-agree, counts-at, fresh-minors}
 use Rattle.history_laws.proofs.Recovered.{Durable, pageSum, added}
 
@@ -68,7 +68,7 @@ split4 (suc (suc zero)) x p = omega arith
 split4 (suc (suc (suc zero))) x p = omega arith
 split4 (suc (suc (suc (suc r)))) x p = absurd (omega arith)
 
-module _ {S : Setting} {T : Tree} {a : List ℕ} (m : Durable S T a) where
+module _ {S : Setting} {T : Tree} {o : Opening} {a : List ℕ} (m : Durable S T o a) where
   open Setting S using (h)
   open Tree T using (count)
 

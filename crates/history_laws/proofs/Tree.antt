@@ -1,5 +1,5 @@
--- Laws of the fresh tree: a node is made of the counts of its own lines, holds the tags of its children, and a write renews its path to the
--- tree of the new counts. Assumes nothing.
+-- Laws of the fresh tree: a node is made of the majors and counts of its own pages and holds the tags of its children, and a path is
+-- renewed to that of a tree which differs on its page alone. Assumes nothing.
 use mathlib.Core.Path.{_≡_, refl, sym, ap, ap₂, _∙_}
 use mathlib.Core.Bool.{Bool, cond}
 use mathlib.Core.List.{List, _∷_, _++_, append-assoc}
@@ -12,7 +12,7 @@ use lib.ListN.{length, getD, set, take, drop}
 use lib.Seq.{take-append-add, drop-append-add, take-at, drop-at}
 use Rattle.words.specs.Bytes.{fromLe, toLe, part, put}
 use Rattle.words.proofs.Digits.{Below, below-nil, below-cons, length-digits, number-exact}
-use Rattle.memory_map.specs.Map.{pageOf, onPath}
+use Rattle.memory_map.specs.Map.{onPath}
 use Rattle.slot_map.specs.Slots.{slotOf}
 use Rattle.counter.specs.Counter.{major, minors, minor, counterBlock, withMinor}
 use Rattle.counter.proofs.Laws.{major-counterBlock, minors-counterBlock}
@@ -24,7 +24,7 @@ use Rattle.calls.specs.Path.{childTag, renewed, tagsFrom}
 use Rattle.memory_map.proofs.Laws.{path-up, path-bottom}
 use Rattle.call_laws.proofs.Fresh.{fresh-length, fresh-bytes}
 use Rattle.call_laws.proofs.Tags.{tags-agree}
-use Rattle.history_laws.proofs.Setting.{Setting, Tree, Small, raised, treeNode, tagOf}
+use Rattle.history_laws.proofs.Setting.{Setting, Tree, Small, Agree, raised, treeNode, tagOf}
 
 -- ---- a function changed at one number
 
@@ -126,23 +126,28 @@ module _ (S : Setting) where
   open Setting S using (keys, keyed)
 
   pub tree-length : (T : Tree) (l i : ℕ) → length (treeNode S T l i) ≡ 64
-  tree-length T l i = fresh-length keys (T .count) l i
+  tree-length T l i = fresh-length keys (T .major) (T .count) l i
 
   pub tree-bytes : (T : Tree) (l i : ℕ) → Below 256 (treeNode S T l i)
-  tree-bytes T l i = fresh-bytes keys (T .count) l i
+  tree-bytes T l i = fresh-bytes keys (T .major) (T .count) l i
 
   pub tree-tag : (T : Tree) (l i : ℕ) → tagOf S (treeNode S T l i) l i < 2 ^ 64
   tree-tag T l i = nodeTag-lt keys (treeNode S T l i) l i keyed (tree-bytes T l i)
 
-  -- counts that agree on the lines below a node give the same node
-  pub fresh-agree : (T U : Tree) (l i : ℕ) → ((x : ℕ) → onPath (pageOf x) l ≡ i → T .count x ≡ U .count x)
-      → treeNode S T l i ≡ treeNode S U l i
+  -- trees that agree on the pages below a node have the same node
+  pub fresh-agree : (T U : Tree) (l i : ℕ) → ((p : ℕ) → onPath p l ≡ i → Agree T U p) → treeNode S T l i ≡ treeNode S U l i
   unfolding freshNode
   fresh-agree T U zero i e =
-      ap (counterBlock 0) (counts-agree (T .count) (U .count) (64 * i) 64 (λ x p q. e x (path-bottom (pageOf x) ∙ omega arith)))
+      let page = e i (path-bottom i) in
+      ap₂ counterBlock (page .major) (counts-agree (T .count) (U .count) (64 * i) 64 (λ n p q. page .count n (omega arith)))
   fresh-agree T U (suc l) i e =
       tags-agree keys l (treeNode S T l) (treeNode S U l) (8 * i) 8
-      (λ j p q. fresh-agree T U l j (λ x r. e x (path-up (pageOf x) l ∙ ap (λ (k : ℕ). k / 8) r ∙ omega arith)))
+      (λ j p q. fresh-agree T U l j (λ x r. e x (path-up x l ∙ ap (λ (k : ℕ). k / 8) r ∙ omega arith)))
+
+  -- trees that agree on every page but p have the same nodes off its path
+  pub off-path : (T U : Tree) (p : ℕ) → ((q : ℕ) → (q ≡ p → ⊥) → Agree T U q) → (l i : ℕ) → (i ≡ onPath p l → ⊥)
+      → treeNode S T l i ≡ treeNode S U l i
+  off-path T U p same l i e = fresh-agree T U l i (λ q r. same q (λ z. e (sym r ∙ ap (λ (y : ℕ). onPath y l) z)))
 
   -- a node holds the tags of its children
   pub child-fresh : (T : Tree) (l i : ℕ) → childTag (treeNode S T (suc l) (i / 8)) i ≡ tagOf S (treeNode S T l i) l i
@@ -167,48 +172,48 @@ counts-at f n (suc k) zero p = ap f (omega arith)
 counts-at f n (suc k) (suc j) p = let next : suc n + j ≡ n + suc j = omega arith in counts-at f (suc n) k j (omega arith) ∙ ap f next
 
 module _ (S : Setting) {T : Tree} (small : Small T) (p : ℕ) where
-  open Tree T using (count)
+  open Tree T using (major as majors, count)
 
   pub fresh-minors : minors (treeNode S T 0 p) ≡ countsFrom count (64 * p) 64
   unfolding freshNode
   fresh-minors =
-      minors-counterBlock 0 (countsFrom count (64 * p) 64) (length-counts count (64 * p) 64) (counts-below count (64 * p) 64 (small .minor))
+      minors-counterBlock (majors p) (countsFrom count (64 * p) 64) (length-counts count (64 * p) 64)
+      (counts-below count (64 * p) 64 (small .minor))
 
-  pub fresh-major : major (treeNode S T 0 p) ≡ 0
+  pub fresh-major : major (treeNode S T 0 p) ≡ majors p
   unfolding freshNode
-  fresh-major = major-counterBlock 0 (countsFrom count (64 * p) 64) (lit< tt)
+  fresh-major = major-counterBlock (majors p) (countsFrom count (64 * p) 64) (small .major p)
 
   -- a block has the counts of its lines as minors
   pub fresh-minor : (j : ℕ) → j < 64 → minor (treeNode S T 0 p) j ≡ count (64 * p + j)
   fresh-minor j q = ap (λ (ms : List ℕ). getD ms j 0) fresh-minors ∙ counts-at count (64 * p) 64 j q
 
   -- and one with another minor is the block of other counts
-  pub fresh-with : (U : Tree) (j : ℕ) → ((x : ℕ) → (x ≡ 64 * p + j → ⊥) → count x ≡ U .count x)
+  pub fresh-with : (U : Tree) (j : ℕ) → majors p ≡ U .major p → ((x : ℕ) → (x ≡ 64 * p + j → ⊥) → count x ≡ U .count x)
       → withMinor (treeNode S T 0 p) j (U .count (64 * p + j)) ≡ treeNode S U 0 p
   unfolding withMinor freshNode
-  fresh-with U j e =
+  fresh-with U j same e =
       ap₂ (λ (m : ℕ) (ms : List ℕ). counterBlock m (set ms j (U .count (64 * p + j)))) fresh-major fresh-minors
-      ∙ ap (counterBlock 0) (counts-set count (U .count) (64 * p) 64 j e)
+      ∙ ap₂ counterBlock same (counts-set count (U .count) (64 * p) 64 j e)
 
--- ---- writing
+-- ---- a path renewed
 
 -- the cache c has the path of page p in the tree T, and the tree U differs from it on that page alone
 pub record Path (S : Setting) (T U : Tree) (p : ℕ) (c : List ℕ) : Type 0 where
   pub fresh : (l : ℕ) → l ≤ S .h → content c (slotOf l (onPath p l)) ≡ treeNode S T l (onPath p l)
-  pub same : (x : ℕ) → (pageOf x ≡ p → ⊥) → T .count x ≡ U .count x
+  pub same : (q : ℕ) → (q ≡ p → ⊥) → Agree T U q
 
 -- the path is then renewed to that of U
 module _ {S : Setting} {T U : Tree} {p : ℕ} {c : List ℕ} (path : Path S T U p c) where
   open Setting S using (keys, h)
 
   -- one level further up
-  above : (l i u : ℕ) → 8 * u + i % 8 ≡ i → ((j : ℕ) → (j ≡ i → ⊥) → (x : ℕ) → onPath (pageOf x) l ≡ j → T .count x ≡ U .count x)
+  above : (l i u : ℕ) → 8 * u + i % 8 ≡ i → ((j : ℕ) → (j ≡ i → ⊥) → treeNode S T l j ≡ treeNode S U l j)
       → put (treeNode S T (suc l) u) (8 * (i % 8)) (toLe 8 (tagOf S (treeNode S U l i) l i)) ≡ treeNode S U (suc l) u
   unfolding freshNode
   above l i u split apart =
       ap (λ (k : ℕ). put (treeNode S T (suc l) u) (8 * (i % 8)) (toLe 8 (tagOf S (treeNode S U l k) l k))) (sym split)
-      ∙ tags-put S l (treeNode S T l) (treeNode S U l) (8 * u) 8 (i % 8) (omega arith)
-      (λ j d. fresh-agree S T U l j (apart j (λ z. d (z ∙ sym split))))
+      ∙ tags-put S l (treeNode S T l) (treeNode S U l) (8 * u) 8 (i % 8) (omega arith) (λ j d. apart j (λ z. d (z ∙ sym split)))
 
   pub renewed-fresh : (l : ℕ) → l ≤ h → renewed keys c p (treeNode S U 0 p) l ≡ treeNode S U l (onPath p l)
   unfolding renewed
@@ -216,5 +221,4 @@ module _ {S : Setting} {T U : Tree} {p : ℕ} {c : List ℕ} (path : Path S T U 
   renewed-fresh (suc l) q =
       ap₂ (λ (s t : List ℕ). put s (8 * (onPath p l % 8)) (toLe 8 (tagOf S t l (onPath p l)))) (path .fresh (suc l) q)
       (renewed-fresh l (omega arith))
-      ∙ above l (onPath p l) (onPath p (suc l)) (omega (arith, path-up p l))
-      (λ j d x r. path .same x (λ z. d (sym r ∙ ap (λ (y : ℕ). onPath y l) z)))
+      ∙ above l (onPath p l) (onPath p (suc l)) (omega (arith, path-up p l)) (off-path S T U p (path .same) l)

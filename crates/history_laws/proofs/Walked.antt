@@ -23,7 +23,7 @@ use Rattle.cache.proofs.Laws.{holds-owner}
 use Rattle.journal.proofs.Again.{put-cells, put-cells-append}
 use Rattle.calls.specs.Path.{childTag, evicted, shadowCell, Loaded, loaded, differs, loadNode, loadLevels, loadPath}
 use Rattle.call_laws.proofs.Loads.{Fit, slot-fit}
-use Rattle.history_laws.proofs.Setting.{Setting, Tree, treeNode, treeRoot, nodeIn, tagOf}
+use Rattle.history_laws.proofs.Setting.{Setting, Tree, treeNode, treeRoot, nodeIn, tagOf, Opening}
 use Rattle.history_laws.proofs.Tree.{child-fresh}
 use Rattle.history_laws.proofs.Live.{Live, Missing, not-listed, own-same, own-other, array-next, live-next, lower-next, rows-next}
 
@@ -32,7 +32,7 @@ pub record Array (S : Setting) (a : List ℕ) : Type 0 where
   pub whole : length a ≡ arrayLength (S .h)
   pub plain : Below 256 a
 
-module _ {S : Setting} (T : Tree) {base : List ℕ} (ok : Array S base) where
+module _ {S : Setting} (T : Tree) (o : Opening) {base : List ℕ} (ok : Array S base) where
   open Setting S using (keys, h, high)
 
   -- ---- one node
@@ -42,13 +42,13 @@ module _ {S : Setting} (T : Tree) {base : List ℕ} (ok : Array S base) where
     cache : List ℕ
     cells : List Cell
     same : loadNode h keys base c l i t ≡ loaded cache cells
-    live : Live S T (put-cells a cells) cache
+    live : Live S T o (put-cells a cells) cache
     held : owner cache (slotOf l i) ≡ suc i
     others : (k j : ℕ) → (k ≡ l → ⊥) → owner cache (slotOf k j) ≡ owner c (slotOf k j)
     lower : (k j : ℕ) → k < l → j < nodes h k → nodeIn S (put-cells a cells) k j ≡ nodeIn S a k j
     rows : (n : ℕ) → n < lines h → part (put-cells a cells) (72 * n) 72 ≡ part a (72 * n) 72
 
-  module _ {a c : List ℕ} (v : Live S T a c) (l i : ℕ) (lh : l ≤ h) (inside : i < nodes h l) (top : owner c (topSlot h) ≡ 0 → l ≡ h)
+  module _ {a c : List ℕ} (v : Live S T o a c) (l i : ℕ) (lh : l ≤ h) (inside : i < nodes h l) (top : owner c (topSlot h) ≡ 0 → l ≡ h)
       (there : nodeIn S base l i ≡ nodeIn S a l i)
       (t : ℕ) (tag : t ≡ tagOf S (treeNode S T l i) l i) where
     abbrev b : List ℕ
@@ -107,7 +107,7 @@ module _ {S : Setting} (T : Tree) {base : List ℕ} (ok : Array S base) where
             cache = with-it;
             cells = batch;
             same = loads;
-            live = subst (λ (n : List ℕ). Live S T n with-it) (sym stored) (live-next v missing fits);
+            live = subst (λ (n : List ℕ). Live S T o n with-it) (sym stored) (live-next v missing fits);
             held = own-same v missing;
             others = λ k j z. own-other v missing (slotOf k j) (λ e. z (sym (level-slot k j) ∙ ap levelOf e ∙ level-slot l i));
             lower = λ k j p q. ap (λ (n : List ℕ). nodeIn S n k j) stored ∙ lower-next v missing k j p q;
@@ -130,7 +130,7 @@ module _ {S : Setting} (T : Tree) {base : List ℕ} (ok : Array S base) where
     -- n levels to load into the cache c, after the cells x
     record Before (n t : ℕ) (c : List ℕ) (x : List Cell) : Type 0 where
       few : n ≤ suc h
-      live : Live S T (put-cells base x) c
+      live : Live S T o (put-cells base x) c
       -- the array lower down is as it was
       lower : (k j : ℕ) → k < n → j < nodes h k → nodeIn S base k j ≡ nodeIn S (put-cells base x) k j
       top : owner c (topSlot h) ≡ 0 → n ≡ suc h
@@ -141,7 +141,7 @@ module _ {S : Setting} (T : Tree) {base : List ℕ} (ok : Array S base) where
       cache : List ℕ
       cells : List Cell
       same : loadLevels h keys base p n t c x ≡ loaded cache cells
-      live : Live S T (put-cells base cells) cache
+      live : Live S T o (put-cells base cells) cache
       path : (k : ℕ) → k < n → owner cache (slotOf k (onPath p k)) ≡ suc (onPath p k)
       rows : (n : ℕ) → n < lines h → part (put-cells base cells) (72 * n) 72 ≡ part (put-cells base x) (72 * n) 72
       above : (k : ℕ) → n ≤ k → owner cache (slotOf k (onPath p k)) ≡ owner c (slotOf k (onPath p k))
@@ -192,7 +192,7 @@ module _ {S : Setting} (T : Tree) {base : List ℕ} (ok : Array S base) where
       next =
           record {
             few = omega (arith, w .few);
-            live = subst (λ (n : List ℕ). Live S T n (step .cache)) (sym appended) (step .live);
+            live = subst (λ (n : List ℕ). Live S T o n (step .cache)) (sym appended) (step .live);
             lower = λ k j r s. w .lower k j (omega arith) s ∙ sym (step .lower k j r s)
                 ∙ sym (ap (λ (n : List ℕ). nodeIn S n k j) appended);
             top = top-step;
@@ -241,11 +241,11 @@ module _ {S : Setting} (T : Tree) {base : List ℕ} (ok : Array S base) where
       pub cache : List ℕ
       pub cells : List Cell
       pub same : loadPath h keys base (treeRoot S T) p c ≡ loaded cache cells
-      pub live : Live S T (put-cells base cells) cache
+      pub live : Live S T o (put-cells base cells) cache
       pub rows : (n : ℕ) → n < lines h → part (put-cells base cells) (72 * n) 72 ≡ part base (72 * n) 72
       pub path : (k : ℕ) → k ≤ h → owner cache (slotOf k (onPath p k)) ≡ suc (onPath p k)
 
-    pub walked : (c : List ℕ) → Live S T base c → Walked c
+    pub walked : (c : List ℕ) → Live S T o base c → Walked c
     unfolding put-cells
     walked c v =
         let r = levels (suc h) (treeRoot S T) c [] (record {

@@ -1,15 +1,15 @@
 -- A read or a write on a module that is ready: what it answers and leaves, for every allowance. Assumes nothing.
-use mathlib.Core.Path.{_≡_, refl, sym, ap, ap₂, _∙_, subst}
+use mathlib.Core.Path.{_≡_, refl, sym, ap, ap₂, _∙_, subst, subst₂}
 use mathlib.Core.Logic.{_⊎_, inl, inr}
 use mathlib.Core.Bool.{Bool, true, cond}
 use mathlib.Core.List.{List, [], _∷_, _++_}
-use mathlib.Core.Option.{Option, none, some}
-use Prim.Native.Nat.{ℕ, zero, suc, _+_, _*_, _≤_, _<_, zero-le}
+use mathlib.Core.Option.{Option, some}
+use Prim.Native.Nat.{ℕ, suc, _+_, _*_, _≤_, _<_}
 use native.Mathlib.Omega.{arith}
 use borrow.Author.Tests.{ne-eqb}
 use lib.Dec.{eqb}
 use lib.ListN.{length, length-append}
-use Rattle.words.specs.Bytes.{part, put}
+use Rattle.words.specs.Bytes.{put}
 use Rattle.words.proofs.Digits.{Below}
 use Rattle.words.proofs.Order.{lt-or-ge, eq-or-not}
 use Rattle.words.proofs.Words.{part-lt}
@@ -26,65 +26,32 @@ use Rattle.journal.proofs.Laws.{batch-empty, made-all, store-none}
 use Rattle.journal.proofs.Again.{put-cells, put-cells-append}
 use Rattle.calls.specs.Call.{Module, Called, mediaOf, withMedia, storing, refuse, accessRefusal}
 use Rattle.calls.specs.Read.{sideBytes, lineMinor}
-use Rattle.calls.specs.Write.{newBlock, stopLoss, dataCell, writeBatch, writeStores}
+use Rattle.calls.specs.Write.{newBlock, stopLoss, lineCell, dataCell, writeBatch, writeStores}
 use Rattle.calls.specs.Write.{writtenCache, writeLoaded, writePath, writeJudged, write}
-use Rattle.calls.specs.Recovery.{total}
-use Rattle.calls.specs.Format.{countsFrom}
 use Rattle.calls.specs.Path.{nodeCell, renewPath, renewedRoot}
 use Rattle.calls.specs.History.{Book, entered}
 use Rattle.call_laws.proofs.Judged.{access-accepted}
 use Rattle.call_laws.proofs.Kept.{Given, batch-sound, batch-bound}
 use Rattle.call_laws.proofs.Loads.{Sound}
-use Rattle.history_laws.proofs.Setting.{Setting, Tree, treeOf, raised, treeNode, treeRoot}
-use Rattle.history_laws.proofs.Tree.{tree-tag, counts-agree, changed-same, changed-other, raised-same, raised-other}
+use Rattle.history_laws.proofs.Setting.{Setting, Tree, treeOf, raised, treeNode, treeRoot, Opening, sealed}
+use Rattle.history_laws.proofs.Tree.{tree-tag, changed-same, changed-other, raised-same, raised-other}
+use Rattle.history_laws.proofs.Opening.{section-open, sealed-alike}
 use Rattle.history_laws.proofs.Stores.{line-cell}
 use Rattle.history_laws.proofs.Live.{Live}
-use Rattle.history_laws.proofs.Written.{dataBytes, data-agree, new-block, new-root, Entry}
-use Rattle.history_laws.proofs.Written.{written, row-other, row-same, live-written}
-use Rattle.history_laws.proofs.State.{RowOk, Settled, Holds, settled-holds, all-bytes}
-use Rattle.history_laws.proofs.Batch.{Batch}
-use Rattle.history_laws.proofs.Outcome.{no-elements, Outcome, done, cases, stored}
-use Rattle.history_laws.proofs.Reading.{Access, was, walk, loads, reached, minor-is, major-is, path-is}
+use Rattle.history_laws.proofs.Written.{new-block, new-root, Entry, own-counter}
+use Rattle.history_laws.proofs.Written.{written, row-kept, row-written, live-written}
+use Rattle.history_laws.proofs.Data.{dataBytes}
+use Rattle.history_laws.proofs.State.{RowOk, row-moved, row-some, Settled, Holds, settled-holds, all-bytes}
+use Rattle.history_laws.proofs.Batch.{Payload, plain-batch}
+use Rattle.history_laws.proofs.Outcome.{no-elements, Outcome, done, cases, outcome, one-batch}
+use Rattle.history_laws.proofs.Page.{path-is, loads, keeps}
+use Rattle.history_laws.proofs.Reading.{Access, was, paged, walk, reached, minor-is, major-is}
 
--- ---- rows
-
-row-moved : (S : Setting) (T U : Tree) (i : ℕ) (a e : List ℕ) (o : Option (List ℕ)) → T .count i ≡ U .count i
-    → part e (72 * i) 72 ≡ part a (72 * i) 72 → RowOk S T i o a → RowOk S U i o e
-unfolding RowOk
-row-moved S T U i a e none z q r = sym z ∙ r
-row-moved S T U i a e (some t) z q r = (subst (λ (j : ℕ). 0 < j) z (r .0), r .1, r .2, q ∙ r .3 ∙ data-agree S T U i t z)
-
-row-some : (S : Setting) (T : Tree) (i : ℕ) (a t : List ℕ) → 0 < T .count i → length t ≡ 64 → Below 256 t
-    → part a (72 * i) 72 ≡ dataBytes S T i t → RowOk S T i (some t) a
-unfolding RowOk
-row-some S T i a t p q r s = (p, q, r, s)
-
--- ---- the sum of the counts
-
-module _ (T : Tree) (n : ℕ) where
-  abbrev f : ℕ → ℕ
-  f = T .count
-
-  abbrev g : ℕ → ℕ
-  g = raised T n .count
-
-  total-raised : (s k : ℕ) → s ≤ n → n < s + k → total (countsFrom g s k) ≡ suc (total (countsFrom f s k))
-  unfolding total countsFrom
-  total-raised s zero p q = absurd (omega arith)
-  total-raised s (suc k) p q = go (λ r u. total-raised (suc s) k r u) (eq-or-not s n)
-    where
-      go : (suc s ≤ n → n < suc s + k → total (countsFrom g (suc s) k) ≡ suc (total (countsFrom f (suc s) k))) → (s ≡ n) ⊎ (s ≡ n → ⊥)
-          → g s + total (countsFrom g (suc s) k) ≡ suc (f s + total (countsFrom f (suc s) k))
-      go rest (inl z) =
-          ap₂ _+_ (subst (λ (x : ℕ). g x ≡ suc (f x)) (sym z) (raised-same T n))
-          (ap total (counts-agree g f (suc s) k (λ x u w. sym (raised-other T n x (λ y. omega arith))))) ∙ omega arith
-      go rest (inr z) = ap₂ _+_ (sym (raised-other T n s z)) (rest (omega (arith, z)) (omega arith)) ∙ omega arith
-
-module _ {S : Setting} {b : Book} {m : Module} {n : ℕ} (w : Access S b m n) where
+module _ {S : Setting} {b : Book} {o : Opening} {m : Module} {n : ℕ} (w : Access S b o m n) where
   open Setting S using (keys, keyed, h)
   open Access w using (ready, inside)
 
-  abbrev held : Holds S b m
+  abbrev held : Holds S b o m
   held = ready .holds
 
   abbrev x : List Cell
@@ -93,15 +60,11 @@ module _ {S : Setting} {b : Book} {m : Module} {n : ℕ} (w : Access S b m n) wh
   abbrev c : List ℕ
   c = walk w .cache
 
-  abbrev s : Settled S b (mediaOf m)
+  abbrev s : Settled S b o (mediaOf m)
   s = was w
 
-  abbrev v : Live S (treeOf b) (put-cells (m .array) x) c
+  abbrev v : Live S (treeOf b) o (put-cells (m .array) x) c
   v = walk w .live
-
-  -- the rows of the book, once the path's batch is stored
-  rows-kept : (i : ℕ) → i < lines h → RowOk S (treeOf b) i (b .text i) (put-cells (m .array) x)
-  rows-kept i q = row-moved S (treeOf b) (treeOf b) i _ _ (b .text i) refl (walk w .rows i q) (s .keeps .rows i q)
 
   -- ---- a read
 
@@ -122,22 +85,20 @@ module _ {S : Setting} {b : Book} {m : Module} {n : ℕ} (w : Access S b m n) wh
         (done refl (record {
           holds = settled-holds c (v .fit .sized) (v .fit .bytes) s;
           idle = ready .idle;
-          live = subst (λ (a : List ℕ). Live S (treeOf b) a c) (ap (put-cells (m .array)) e) v;
+          live = subst (λ (a : List ℕ). Live S (treeOf b) o a c) (ap (put-cells (m .array)) e) v;
         })))
       where
         empty : length {A = Store} [] ≡ 0
         empty = refl
 
-    path-batch : 0 < length x → Batch S b b m x r
-    path-batch p =
+    path-payload : 0 < length x → Payload S b o (m .array) x r
+    path-payload p =
         record {
-          held = held;
-          idle = ready .idle;
-          sound = loads w .sound;
-          few = omega (arith, loads w .few, S .high);
+          sound = loads (paged w) .sound;
+          few = omega (arith, loads (paged w) .few, S .high);
           filled = p;
           word = omega (arith, root-at (m .control), part-lt 8 (m .control) 7 (held .formed .control-bytes));
-          keeps = record { durable = v .durable; rows = rows-kept; sum = s .keeps .sum };
+          keeps = keeps (paged w);
           top = s .top;
         }
 
@@ -145,7 +106,7 @@ module _ {S : Setting} {b : Book} {m : Module} {n : ℕ} (w : Access S b m n) wh
     read-outcome = go (lt-or-ge 0 (length x))
       where
         go : (0 < length x) ⊎ (length x ≤ 0) → ReadEnds (storing allowance m (batchStores x r) answer c)
-        go (inl p) = stored (path-batch p) v answer allowance
+        go (inl p) = outcome (one-batch (plain-batch held (ready .idle) (path-payload p)) v) answer allowance
         go (inr p) = nothing (no-elements x p)
 
   -- ---- a write
@@ -170,13 +131,14 @@ module _ {S : Setting} {b : Book} {m : Module} {n : ℕ} (w : Access S b m n) wh
     entry : Entry (reached w) text stop
     entry =
         record {
+          not-open = sym (section-open (s .section) (pageOf n)) ∙ access-accepted keys n text m (t .open-now) .closed;
           room = t .room;
           full = t .full;
           when = ap (λ (k : ℕ). eqb (phaseOf (suc k)) 0) (minor-is w);
         }
 
     data-is : dataCell keys n text c ≡ record { number = n; bytes = dataBytes S U n text }
-    unfolding dataCell dataBytes
+    unfolding lineCell dataBytes
     data-is =
         ap₂ {C = Cell} (λ (ma mi : ℕ). record {
           number = n;
@@ -199,23 +161,25 @@ module _ {S : Setting} {b : Book} {m : Module} {n : ℕ} (w : Access S b m n) wh
         ∙ ap (λ (k : ℕ). put (put-cells (put-cells (m .array) x) (blockCell (treeNode S U 0 (pageOf n)))) (72 * k) (dataBytes S U n text))
         (sym (line-cell h n))
 
-    rows-new : (i : ℕ) → i < lines h → RowOk S U i (booked .text i) (put-cells (m .array) cells)
+    rows-new : (i : ℕ) → i < lines h → RowOk S (sealed o U i) i (booked .text i) (put-cells (m .array) cells)
     unfolding entered
-    rows-new i q = subst (RowOk S U i (booked .text i)) (sym array-is) (go (eq-or-not i n))
+    rows-new i q = subst (RowOk S (sealed o U i) i (booked .text i)) (sym array-is) (go (eq-or-not i n))
       where
         new : List ℕ
         new = written (reached w) entry
 
-        own : RowOk S U n (booked .text n) new
+        own : RowOk S (sealed o U n) n (booked .text n) new
         own =
-            subst (λ (o : Option (List ℕ)). RowOk S U n o new) (sym (changed-same (b .text) n (some text)))
-            (row-some S U n new text (omega (arith, raised-same (treeOf b) n)) (t .full) (t .plain) (row-same (reached w) entry))
+            subst₂ (λ (W : Tree) (y : Option (List ℕ)). RowOk S W n y new) (sym (own-counter (reached w) entry))
+            (sym (changed-same (b .text) n (some text)))
+            (row-some S U n new text (omega (arith, raised-same (treeOf b) n)) (t .full) (t .plain) (row-written (reached w) entry))
 
-        go : (i ≡ n) ⊎ (i ≡ n → ⊥) → RowOk S U i (booked .text i) new
-        go (inl z) = subst (λ (k : ℕ). RowOk S U k (booked .text k) new) (sym z) own
+        go : (i ≡ n) ⊎ (i ≡ n → ⊥) → RowOk S (sealed o U i) i (booked .text i) new
+        go (inl z) = subst (λ (k : ℕ). RowOk S (sealed o U k) k (booked .text k) new) (sym z) own
         go (inr z) =
-            subst (λ (o : Option (List ℕ)). RowOk S U i o new) (sym (changed-other (b .text) n (some text) i z))
-            (row-moved S (treeOf b) U i _ _ (b .text i) (raised-other (treeOf b) n i z) (row-other (reached w) entry i q z) (rows-kept i q))
+            subst (λ (y : Option (List ℕ)). RowOk S (sealed o U i) i y new) (sym (changed-other (b .text) n (some text) i z))
+            (row-moved S (sealed-alike o (treeOf b) U i refl (raised-other (treeOf b) n i z)) _ _ (b .text i)
+            (row-kept (reached w) entry i q z) (keeps (paged w) .rows i q))
 
     abbrev pub root-new : ℕ
     root-new = renewedRoot h keys c (pageOf n) (newBlock c n)
@@ -229,13 +193,13 @@ module _ {S : Setting} {b : Book} {m : Module} {n : ℕ} (w : Access S b m n) wh
     sound-new : Each (Sound h) cells
     sound-new =
         subst (λ (d : ℕ). Each (Sound d) (writeBatch d keys n text c x)) (held .deep)
-        (batch-sound given c x (subst (λ (d : ℕ). Each (Sound d) x) (sym (held .deep)) (loads w .sound)))
+        (batch-sound given c x (subst (λ (d : ℕ). Each (Sound d) x) (sym (held .deep)) (loads (paged w) .sound)))
 
     pub few-new : length cells ≤ 8
     few-new =
         let bound : length cells ≤ 2 * h + 2 =
         subst (λ (d : ℕ). length (writeBatch d keys n text c x) ≤ 2 * d + 2) (held .deep)
-        (batch-bound given c x (omega (arith, held .deep, loads w .few))) in
+        (batch-bound given c x (omega (arith, held .deep, loads (paged w) .few))) in
         omega (arith, S .high, bound)
 
     pub some-new : 0 < length cells
@@ -245,38 +209,32 @@ module _ {S : Setting} {b : Book} {m : Module} {n : ℕ} (w : Access S b m n) wh
     abbrev pub cache-new : List ℕ
     cache-new = renewPath keys c (pageOf n) (treeNode S U 0 (pageOf n)) (cond stop 0 1) h
 
-    live-new : Live S U (put-cells (m .array) cells) cache-new
-    live-new = subst (λ (a : List ℕ). Live S U a cache-new) (sym array-is) (live-written (reached w) entry)
+    live-new : Live S U o (put-cells (m .array) cells) cache-new
+    live-new = subst (λ (a : List ℕ). Live S U o a cache-new) (sym array-is) (live-written (reached w) entry)
 
-    write-batch : Batch S b booked m cells root-new
+    write-payload : Payload S booked o (m .array) cells root-new
     unfolding entered
-    write-batch =
+    write-payload =
         record {
-          held = held;
-          idle = ready .idle;
           sound = sound-new;
           few = few-new;
           filled = some-new;
           word = omega (arith, root-is, tree-tag S U h 0);
-          keeps = record {
-            durable = live-new .durable;
-            rows = rows-new;
-            sum = total-raised (treeOf b) n 0 (lines h) zero-le (omega (arith, inside)) ∙ ap suc (s .keeps .sum);
-          };
+          keeps = record { durable = live-new .durable; rows = rows-new };
           top = root-is;
         }
 
     pub write-outcome : (answer : Answer) (allowance : ℕ)
         → Outcome S b (entered true n text b) (length cells) answer (storing allowance m (batchStores cells root-new) answer cache-new)
     unfolding entered
-    write-outcome answer allowance = stored write-batch live-new answer allowance
+    write-outcome answer allowance = outcome (one-batch (plain-batch held (ready .idle) write-payload) live-new) answer allowance
 
     pub write-is : (allowance : ℕ)
         → write keys n text allowance m
         ≡ storing allowance m (batchStores cells root-new) (Done (length (batchStores cells root-new)) 0) cache-new
     unfolding writeJudged writePath writeLoaded writeStores writtenCache
     write-is allowance =
-        ap (λ (k : ℕ). writeJudged k keys n text allowance m) (t .open-now) ∙ ap (writePath keys n text allowance m) (path-is w)
+        ap (λ (k : ℕ). writeJudged k keys n text allowance m) (t .open-now) ∙ ap (writePath keys n text allowance m) (path-is (paged w))
         ∙ ap (λ (d : ℕ). cond (eqb (lineMinor c n) 127) (refuse m 26 0 0) (stores-at d)) (held .deep)
         ∙ ap (λ (y : Bool). cond y (refuse m 26 0 0) (stores-at h))
         (ne-eqb (lineMinor c n) 127 (λ z. omega (arith, minor-is w, z, t .room)))

@@ -14,7 +14,7 @@ use Rattle.words.proofs.Digits.{length-digits}
 use Rattle.words.proofs.Order.{lt-or-ge, lt-eq-gt}
 use Rattle.words.proofs.Parts.{length-put}
 use Rattle.words.proofs.Puts.{drop-put, part-put-same, part-put-before, getD-part, put-put, put-comm}
-use Rattle.control.specs.Control.{Cell, controlLength, queue, count, newRoot, inMap}
+use Rattle.control.specs.Control.{Cell, controlLength, turnAt, queue, count, newRoot, inMap}
 use Rattle.control.proofs.Laws.{count-at, same-count, same-new-root, same-queue}
 use Rattle.journal.specs.Journal.{Store, Media, media, store, storeAll, finish, batchStores, pendingStores, made}
 use Rattle.journal.specs.Journal.Store.{cell, root, clear}
@@ -237,14 +237,17 @@ module _ (size : ℕ) (m : Media) (f : Formed size m) (few : count (m .control) 
 
 module _ (size : ℕ) (a k : List ℕ) (cs : List Cell) (r : ℕ) (f : Formed size (media a k)) (ws : Each Whole cs)
     (e : inMap (size / 72) cs ≡ true) (some : 0 < length cs) (few : length cs ≤ 8) where
-  -- before the commit, array and fields are as they were
+  -- before the commit, array, fields and the section of a turn are as they were
   pub batch-dropped : (n : ℕ) → n ≤ length cs
       → (storeAll (media a k) (made n (batchStores cs r)) .array ≡ a)
       × (part (storeAll (media a k) (made n (batchStores cs r)) .control) 0 24 ≡ part k 0 24)
+      × (drop turnAt (storeAll (media a k) (made n (batchStores cs r)) .control) ≡ drop turnAt k)
   batch-dropped n h =
       let s = cut-staged k cs r (f .control-length) few ws a n some h in
       let long = length-laid (each-take n ws) in (
         ap (λ (m : Media). m .array) s,
         ap (λ (m : Media). part (m .control) 0 24) s
             ∙ part-put-before k 24 (laid (take n cs)) (omega (arith, long, length-take n cs, f .control-length)) 0 24 (lit≤ tt),
+        ap (λ (m : Media). drop turnAt (m .control)) s
+            ∙ drop-put k 24 (laid (take n cs)) (omega (arith, f .control-length)) turnAt (omega (arith, long, length-take n cs)),
       )

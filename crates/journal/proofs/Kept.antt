@@ -15,8 +15,8 @@ use Rattle.words.proofs.Parts.{length-put, below-put}
 use Rattle.words.proofs.Order.{lt-eq-gt}
 use Rattle.words.proofs.Puts.{part-put-before, part-put-after}
 use Rattle.control.specs.Control.{Cell, controlLength, placeAt, queue, count, newRoot, inMap}
-use Rattle.journal.specs.Journal.{Store, Media, media, store, storeAll, stages, finish, batchStores, pendingStores, made}
-use Rattle.journal.specs.Journal.Store.{stage, commit, cell, root, clear}
+use Rattle.journal.specs.Journal.{Store, Media, media, store, storeAll, stages, finish, batchStores, turnStores, pendingStores, made}
+use Rattle.journal.specs.Journal.Store.{stage, commit, commitTurn, cell, root, clear}
 use Rattle.journal.proofs.Each.{Each, none, more, each-append, each-take}
 use Rattle.journal.proofs.Queue.{Whole, placed, length-placed, whole-places}
 
@@ -31,6 +31,7 @@ pub record Formed (size : ℕ) (m : Media) : Type 0 where
 unfoldable pub Within : ℕ → Store → Type 0
 Within bound (stage j c) = (j < 8) × Whole c
 Within bound (commit n r) = n ≤ 8
+Within bound (commitTurn n r s) = (n ≤ 8) × (length s ≡ 17) × Below 256 s
 Within bound (cell c) = (c .number < bound) × Whole c
 Within bound (root r) = Unit {0}
 Within bound clear = Unit {0}
@@ -60,6 +61,14 @@ within-batch bound r none e h = none
 within-batch bound r (more {xs = cs} w ws) e h =
     each-append (within-stages bound 0 (more w ws) (omega arith))
     (more {x = commit (suc (length cs)) r} h (within-finish bound r (more w ws) e))
+
+pub within-turn : (bound r : ℕ) {cs : List Cell} {s : List ℕ} → Each Whole cs → inMap bound cs ≡ true → length cs ≤ 8 → length s ≡ 17
+    → Below 256 s
+    → Each (Within bound) (turnStores cs r s)
+unfolding turnStores Within
+within-turn bound r {cs} {s} ws e h size plain =
+    each-append (within-stages bound 0 ws (omega arith))
+    (more {x = commitTurn (length cs) r s} (h, size, plain) (within-finish bound r ws e))
 
 pub within-pending : (bound : ℕ) (k : List ℕ) → length k ≡ controlLength → Below 256 k → count k ≤ 8 → inMap bound (queue k) ≡ true
     → Each (Within bound) (pendingStores k)
@@ -91,6 +100,9 @@ store-kept (stage j c) f w =
     (below-append (toLe 8 (c .number)) (c .bytes) (below-digits 256 8 (c .number) (lit< tt)) (w .1 .bytes))
 store-kept (commit n r) f w =
     put-kept 15 (n ∷ toLe 8 r) f (omega (arith, length-digits 256 8 r)) (below-cons (omega arith) (below-digits 256 8 r (lit< tt)))
+store-kept (commitTurn n r s) f w =
+    put-kept 15 (n ∷ toLe 8 r) (put-kept 664 s f (omega (arith, w .1)) (w .2)) (omega (arith, length-digits 256 8 r))
+    (below-cons (omega (arith, w .0)) (below-digits 256 8 r (lit< tt)))
 store-kept {size} {m} (cell c) f w = record {
   array-length = length-put (m .array) (72 * c .number) (c .bytes) (omega (arith, w .0, w .1 .size, f .array-length)) ∙ f .array-length;
   control-length = f .control-length;
@@ -118,6 +130,11 @@ store-front {m = m} (stage j c) f w =
     part-put-before (m .control) (placeAt j) (placed c) (omega (arith, length-placed (w .1), f .control-length)) 0 7 (omega arith)
 store-front {m = m} (commit n r) f w =
     part-put-before (m .control) 15 (n ∷ toLe 8 r) (omega (arith, length-digits 256 8 r, f .control-length)) 0 7 (omega arith)
+store-front {m = m} (commitTurn n r s) f w =
+    let nine = length-digits 256 8 r in
+    part-put-before (put (m .control) 664 s) 15 (n ∷ toLe 8 r)
+    (omega (arith, length-put (m .control) 664 s (omega (arith, w .1, f .control-length)), f .control-length)) 0 7 (omega arith)
+    ∙ part-put-before (m .control) 664 s (omega (arith, f .control-length)) 0 7 (omega arith)
 store-front (cell c) f w = refl
 store-front {m = m} (root r) f w =
     part-put-before (m .control) 7 (toLe 8 r) (omega (arith, length-digits 256 8 r, f .control-length)) 0 7 (omega arith)
@@ -135,6 +152,7 @@ stores-front f (more {x = x} w ws) = stores-front (store-kept x f w) ws ∙ stor
 unfoldable pub Avoids : ℕ → Store → Type 0
 Avoids n (stage j c) = Unit {0}
 Avoids n (commit m r) = Unit {0}
+Avoids n (commitTurn m r s) = Unit {0}
 Avoids n (cell c) = c .number ≡ n → ⊥
 Avoids n (root r) = Unit {0}
 Avoids n clear = Unit {0}
@@ -156,11 +174,18 @@ avoids-batch n r (more {x = c} {xs = cs} a bs) =
     each-append (avoids-stages n 0 (c ∷ cs))
     (more {x = commit (suc (length cs)) r} tt (each-append (avoids-cells n (more a bs)) (more {x = root r} tt (more {x = clear} tt none))))
 
+pub avoids-turn : (n r : ℕ) {cs : List Cell} (s : List ℕ) → Each (λ c. c .number ≡ n → ⊥) cs → Each (Avoids n) (turnStores cs r s)
+unfolding turnStores finish Avoids
+avoids-turn n r {cs} s bs =
+    each-append (avoids-stages n 0 cs)
+    (more {x = commitTurn (length cs) r s} tt (each-append (avoids-cells n bs) (more {x = root r} tt (more {x = clear} tt none))))
+
 store-apart : {size : ℕ} (n : ℕ) {m : Media} (x : Store) → Formed size m → Within (size / 72) x → Avoids n x
     → part (store m x .array) (72 * n) 72 ≡ part (m .array) (72 * n) 72
 unfolding store Within Avoids
 store-apart n (stage j c) f w a = refl
 store-apart n (commit k r) f w a = refl
+store-apart n (commitTurn k r s) f w a = refl
 store-apart {size} n {m} (cell c) f w a = go (lt-eq-gt n (c .number))
   where
     within : 72 * c .number + length (c .bytes) ≤ length (m .array)

@@ -235,7 +235,7 @@ module _ (x k : List ℕ) (cs : List Cell) (r a : ℕ) (size : length k ≡ cont
   abbrev now : List ℕ
   now = stagedFrom a 0 cs k
 
-  staged-made : media x now ≡ storeAll (media x k) (made a (stages 0 cs))
+  pub staged-made : media x now ≡ storeAll (media x k) (made a (stages 0 cs))
   staged-made =
       let all : a - 0 ≡ a = omega arith in
       staged-stores x a 0 cs k ∙ ap (λ (i : ℕ). storeAll (media x k) (made i (stages 0 cs))) all

@@ -7,12 +7,13 @@ use mathlib.Core.List.{List, [], _∷_, _++_, map}
 use lib.Dec.{ltb}
 use lib.ListN.{length, take}
 use Rattle.words.specs.Bytes.{toLe, put}
-use Rattle.control.specs.Control.{Cell, rootAt, countAt, placeAt, queue, newRoot, pending}
+use Rattle.control.specs.Control.{Cell, rootAt, countAt, placeAt, turnAt, queue, newRoot, pending}
 
 -- one store, whole or not at all
 pub data Store : Type 0 where
   stage : ℕ → Cell → Store
   commit : ℕ → ℕ → Store
+  commitTurn : ℕ → ℕ → List ℕ → Store
   cell : Cell → Store
   root : ℕ → Store
   clear : Store
@@ -25,10 +26,11 @@ pub record Media : Type 0 where
 abbrev pub media : List ℕ → List ℕ → Media
 media a k = record { array = a; control = k }
 
--- queue place j; the count with the new root; a cell; the root; count 0
+-- queue place j; the count with the new root; the same with the section of a turn; a cell; the root; count 0
 unfoldable pub store : Media → Store → Media
 store m (stage j c) = media (m .array) (put (m .control) (placeAt j) (toLe 8 (c .number) ++ c .bytes))
 store m (commit n r) = media (m .array) (put (m .control) countAt (n ∷ toLe 8 r))
+store m (commitTurn n r s) = media (m .array) (put (put (m .control) turnAt s) countAt (n ∷ toLe 8 r))
 store m (cell c) = media (put (m .array) (72 * c .number) (c .bytes)) (m .control)
 store m (root r) = media (m .array) (put (m .control) rootAt (toLe 8 r))
 store m clear = media (m .array) (put (m .control) countAt (0 ∷ []))
@@ -55,6 +57,13 @@ committing cs r = commit (length cs) r ∷ finish cs r
 unfoldable pub batchStores : List Cell → ℕ → List Store
 batchStores [] r = []
 batchStores (c ∷ cs) r = stages 0 (c ∷ cs) ++ committing (c ∷ cs) r
+
+-- those of a batch of a turn, which is never empty: the commit also sets the section s
+abbrev pub committingTurn : List Cell → ℕ → List ℕ → List Store
+committingTurn cs r s = commitTurn (length cs) r s ∷ finish cs r
+
+unfoldable pub turnStores : List Cell → ℕ → List ℕ → List Store
+turnStores cs r s = stages 0 cs ++ committingTurn cs r s
 
 -- the stores that a pending batch still wants: m + 2
 unfoldable pub pendingStores : List ℕ → List Store

@@ -5,8 +5,8 @@ ghost use mathlib.Core.List.{_∷_, map};
 ghost use Prim.Native.Nat.{min, _+_, _-_, _*_, _/_, _<_, _≤_};
 ghost use lib.ListN.{length};
 ghost use Rattle.words.specs.Bytes.{toLe, put};
-ghost use Rattle.control.specs.Control.{controlLength, placeAt, places, queue, inMap, count, countAt};
-ghost use Rattle.journal.specs.Journal.{media, storeAll, made, committing, pendingStores, Stored};
+ghost use Rattle.control.specs.Control.{controlLength, placeAt, places, turnBytes, queue, inMap, count, countAt};
+ghost use Rattle.journal.specs.Journal.{media, storeAll, made, committing, committingTurn, pendingStores, Stored};
 ghost use Rattle.journal.specs.Journal.Store.{cell};
 use copying::copy;
 use words::store64;
@@ -88,4 +88,30 @@ pub fn run(array: &mut [u8], control: &mut [u8], n: usize, root: u64, allowance:
     commit(control, n, root);
     let left = allowance - n as u64 - 1;
     n as u64 + 1 + finish(array, control, left)
+}
+
+// The same for a batch of a turn, whose commit also stores the section: its count, its page and its mask.
+pub fn run_turn(
+    array: &mut [u8],
+    control: &mut [u8],
+    n: usize,
+    root: u64,
+    count: u8,
+    page: u64,
+    mask: u64,
+    allowance: u64,
+) -> u64
+    requires { ⌜ (length (now control) ≡ controlLength) × (((1 ≤ n) × (n ≤ 8))
+        × (n < allowance → inMap (length (now array) / 72) (places (now control) (placeAt 0) n) ≡ true)) ⌝ }
+    ensures { λ _. ⌜ media (now (array .exit)) (now (control .exit)) ≡ storeAll (media (now (array .entry)) (now (control .entry)))
+        (made (allowance - n) (committingTurn (places (now (control .entry)) (placeAt 0) n) root (turnBytes count page mask))) ⌝ }
+    ensures { λ r. ⌜ r ≡ min n allowance + length (made (allowance - n)
+        (committingTurn (places (now (control .entry)) (placeAt 0) n) root (turnBytes count page mask))) ⌝ }
+{
+    let cells = n as u64;
+    if allowance <= cells {
+        return allowance;
+    }
+    control::put_turn(control, count, page, mask);
+    run(array, control, n, root, allowance)
 }

@@ -22,7 +22,8 @@ use Rattle.batch.proofs.Laws.{staged-none, staged-one, staged-append}
 use Rattle.calls.specs.Path.{nodeCell}
 use Rattle.calls.specs.Read.{sideBytes}
 use Rattle.call_laws.specs.Walk.{pathCells}
-use Rattle.call_laws.specs.Line.{lineCell, blockCells, lineCells}
+use Rattle.calls.specs.Write.{lineCell}
+use Rattle.call_laws.specs.Line.{blockCells, lineCells}
 use Rattle.call_laws.proofs.Line.{sealed-length, all-length}
 
 -- ---- the data cell

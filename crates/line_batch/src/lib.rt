@@ -8,7 +8,8 @@ ghost use Rattle.slot_map.specs.Slots.{cacheLength};
 ghost use Rattle.control.specs.Control.{controlLength};
 ghost use Rattle.batch.specs.Batch.{staged, stagedFrom};
 ghost use Rattle.cache.specs.Cache.{formed};
-ghost use Rattle.call_laws.specs.Line.{lineCell, blockCells, lineCells};
+ghost use Rattle.calls.specs.Write.{lineCell};
+ghost use Rattle.call_laws.specs.Line.{blockCells, lineCells};
 ghost use Rattle.call_laws.specs.Walk.{missing as missingNodes, pathCells};
 
 // Writes the 72 bytes of a data cell.
@@ -30,7 +31,7 @@ fn seal(keys: &[u8], line: usize, text: &[u8], major: u64, minor: u64, cell: &mu
 }
 
 // Stages the data cell of a text at a counter as cell n of a batch.
-fn put_data(
+pub fn put_data(
     keys: &[u8],
     line: usize,
     text: &[u8],
@@ -60,7 +61,7 @@ fn put_data(
 }
 
 // Stages the cells of the path, and tells how many there are.
-fn put_path(
+pub fn put_path(
     h: usize,
     cache: &[u8],
     p: usize,

@@ -1,39 +1,36 @@
 -- The batch of a write, run under an allowance, and the cache after it. Assumes nothing.
-use mathlib.Core.Path.{_≡_, refl, sym, ap, ap₂, _∙_}
+use mathlib.Core.Path.{_≡_, ap, _∙_}
 use mathlib.Core.Bool.{Bool, true, false, cond}
 use mathlib.Core.List.{List, [], _∷_}
-use Prim.Native.Nat.{ℕ, zero, suc, _+_, _*_, _%_, _≤_, _<_}
+use Prim.Native.Nat.{ℕ, suc, _+_, _*_, _≤_, _<_}
 use native.Mathlib.Nat.{le-refl}
 use native.Mathlib.Omega.{arith}
 use lib.Dec.{eqb}
 use lib.ListN.{length, getD}
-use Rattle.words.specs.Bytes.{toLe, put}
 use Rattle.memory_map.specs.Map.{cells, pageOf, onPath, cellOf, InMap}
 use Rattle.memory_map.specs.Map.Item.{line, node}
-use Rattle.memory_map.proofs.Laws.{cell-injective, page-node, path-node, path-top}
-use Rattle.slot_map.specs.Slots.{slotOf}
+use Rattle.memory_map.proofs.Laws.{cell-injective, page-node, path-node}
 use Rattle.counter.specs.Counter.{phaseOf}
-use Rattle.tag.specs.Tag.{nodeTag}
 use Rattle.answer.specs.declared.Answer.the-variants.{Done, Cut}
 use Rattle.control.specs.Control.{Cell}
 use Rattle.batch.specs.Batch.{stagedFrom}
-use Rattle.cache.specs.Cache.{content, cellContent, withSlot, holds, current}
+use Rattle.cache.specs.Cache.{cellContent, holds}
 use Rattle.journal.specs.Journal.{Store, Media, media, storeAll, batchStores, made as takes}
 use Rattle.journal.proofs.Each.{Each, none, more, each-append}
 use Rattle.journal.proofs.Steps.{Ran}
-use Rattle.calls.specs.Path.{nodeCell, renewed, renewPath, renewedRoot}
+use Rattle.calls.specs.Path.{nodeCell, renewPath, renewedRoot}
 use Rattle.calls.specs.Call.{Called, buffers, ended, storing}
-use Rattle.call_laws.specs.Line.{lineCell, blockCells, lineCells}
+use Rattle.calls.specs.Write.{lineCell}
+use Rattle.call_laws.specs.Line.{blockCells, lineCells}
 use Rattle.call_laws.specs.Walk.{pathCells, withPath}
 use Rattle.call_laws.proofs.Loads.{Sound, cells-sound}
-use Rattle.call_laws.proofs.Loading.{path-content, path-length}
 use Rattle.call_laws.proofs.Apart.{Other, node-avoids, stored-length, content-kept}
 use Rattle.call_laws.proofs.Line.{Lent, all-sound, block-few}
 use Rattle.call_laws.proofs.Staged.{Staged, stored, staged-cut, staged-done}
 use Rattle.path.proofs.Ready.{Ready, fit, few}
 use Rattle.line_batch.proofs.Laws.{cells-length}
 use Rattle.renewal.specs.Renewed.{renewedTag, renewedBy}
-use Rattle.line_store.proofs.Held.{path-over, renewed-over}
+use Rattle.line_store.proofs.Renewed.{root-renewed, same-renewed}
 
 module _ {h : ℕ} {a k c : List ℕ} {n : ℕ} (y : Ready h a k c (pageOf n)) (keys : List ℕ) {text b : List ℕ} (v : Lent h n text b)
     (ma mi : ℕ) where
@@ -90,34 +87,14 @@ module _ {h : ℕ} {a k c : List ℕ} {n : ℕ} (y : Ready h a k c (pageOf n)) (
       each-append (each-append (node-avoids h c (fit y .formed) p (y .page) l lh e) (block-other l q lh (eqb (phaseOf mi) 0)))
       (more {x = lineCell keys n text ma mi} (data-other l lh) none)
 
-  -- ---- the path with its tags
+  -- ---- run, with the tags of the renewed path
 
   abbrev d : List ℕ
   d = withPath h a p (suc h) c
 
-  d-content : (l : ℕ) → l ≤ h → content d (slotOf l (onPath p l)) ≡ current h a c l (onPath p l)
-  d-content = path-content h (y .sized .flat) keys a (y .sized .array) 0 p (y .page) c (y .sized .cache)
-
-  tag-renewed : (l : ℕ) → l ≤ h → renewedTag h keys a c p b l ≡ nodeTag keys (renewed keys d p b l) l (onPath p l)
-  unfolding renewedTag renewed
-  tag-renewed zero q = refl
-  tag-renewed (suc l) q =
-      ap₂ (λ (x : List ℕ) (t : ℕ). nodeTag keys (put x (8 * (onPath p l % 8)) (toLe 8 t)) (suc l) (onPath p (suc l)))
-      (sym (d-content (suc l) q)) (tag-renewed l (omega arith))
-
   module _ (tags : List ℕ) (known : (l : ℕ) → l ≤ h → getD tags l 0 ≡ renewedTag h keys a c p b l) where
-    pub root-renewed : getD tags h 0 ≡ renewedRoot h keys d p b
-    root-renewed = known h (le-refl h) ∙ tag-renewed h (le-refl h) ∙ ap (nodeTag keys (renewed keys d p b h) h) (path-top h p (y .page))
-
-    renewed-path : (f l : ℕ) → l ≤ h → renewedBy d p b f tags l ≡ renewPath keys d p b f l
-    unfolding renewedBy renewPath renewed
-    renewed-path f zero q = refl
-    renewed-path f (suc l) q =
-        ap₂ {C = List ℕ} (λ (x : List ℕ) (t : ℕ). withSlot x (slotOf (suc l) (onPath p (suc l))) (suc (onPath p (suc l))) 1
-        (put (content d (slotOf (suc l) (onPath p (suc l)))) (8 * (onPath p l % 8)) (toLe 8 t)))
-        (renewed-path f l (omega arith)) (known l (omega arith) ∙ tag-renewed l (omega arith))
-
-    -- ---- run
+    top-renewed : getD tags h 0 ≡ renewedRoot h keys d p b
+    top-renewed = root-renewed y keys b (v .wide) tags known
 
     module _ {allowance : ℕ} {k₁ : List ℕ} {m : ℕ} (s : Staged h allowance a k cs k₁ m) where
       abbrev xs : List Store
@@ -128,13 +105,13 @@ module _ {h : ℕ} {a k c : List ℕ} {n : ℕ} (y : Ready h a k c (pageOf n)) (
 
       module _ {r : ℕ} (top : r ≡ getD tags h 0) {a' k' : List ℕ} {told : ℕ} (ran : Ran a k₁ m r allowance (media a' k') told) where
         pub write-cut : (f : ℕ) → told < 2 * m + 3 → ended (Cut told) a' k' c ≡ called f
-        write-cut f q = staged-cut s (top ∙ root-renewed) ran c (renewPath keys d p b f h) q
+        write-cut f q = staged-cut s (top ∙ top-renewed) ran c (renewPath keys d p b f h) q
 
         abbrev d' : List ℕ
         d' = withPath h a' p (suc h) c
 
         array-is : a' ≡ storeAll (media a k) (takes allowance xs) .array
-        array-is = ap (λ (x : Media). x .array) (stored s (top ∙ root-renewed) ran .left)
+        array-is = ap (λ (x : Media). x .array) (stored s (top ∙ top-renewed) ran .left)
 
         pub whole' : length a' ≡ length a
         whole' =
@@ -151,18 +128,8 @@ module _ {h : ℕ} {a k c : List ℕ} {n : ℕ} (y : Ready h a k c (pageOf n)) (
             (batch-length .1) allowance
             (renewedRoot h keys d p b) (node l (onPath p l)) (batch-other l q lh e)
 
-        -- loaded from the array after the stores, and renewed
-        same-renewed : (f : ℕ) → renewedBy d' p b f tags h ≡ renewPath keys d p b f h
-        same-renewed f =
-            renewed-over h (y .sized .flat) p (y .page) b (v .wide) f tags d' d
-            (path-length h (y .sized .flat) keys a' (whole' ∙ y .sized .array) 0 p (y .page) c (y .sized .cache))
-            (path-length h (y .sized .flat) keys a (y .sized .array) 0 p (y .page) c (y .sized .cache))
-            (path-over h (y .sized .flat) p (y .page) b (v .wide) f a a' c (y .sized .array) (whole' ∙ y .sized .array) kept
-            (y .sized .cache)) h (le-refl h)
-            ∙ renewed-path f h (le-refl h)
-
         pub write-done : (f : ℕ) → 2 * m + 3 ≤ told → (c' : List ℕ) → c' ≡ renewedBy d' p b f tags h → ended (Done told 0) a' k' c'
             ≡ called f
         write-done f q c' e =
-            ap (λ (l : List ℕ). ended (Done told 0) a' k' l) (e ∙ same-renewed f)
-            ∙ staged-done s (top ∙ root-renewed) ran c (renewPath keys d p b f h) q
+            ap (λ (l : List ℕ). ended (Done told 0) a' k' l) (e ∙ same-renewed y keys b (v .wide) tags known a' whole' kept f)
+            ∙ staged-done s (top ∙ top-renewed) ran c (renewPath keys d p b f h) q

@@ -4,26 +4,15 @@ ghost use mathlib.Core.Bool.{true, cond};
 ghost use Prim.Native.Nat.{suc, _<_};
 ghost use lib.ListN.{length};
 ghost use lib.Dec.{eqb};
-ghost use Rattle.memory_map.specs.Map.{pages, lines, pageOf};
+ghost use Rattle.memory_map.specs.Map.{lines, pageOf};
 ghost use Rattle.counter.specs.Counter.{phaseOf};
 ghost use Rattle.control.specs.Control.{controlLength};
 ghost use Rattle.cache.specs.Cache.{formed};
 ghost use Rattle.node.specs.Sized.{Sized};
 ghost use Rattle.calls.specs.Call.{buffers, ended};
-ghost use Rattle.call_laws.specs.Walk.{missing as missingNodes, withPath};
+ghost use Rattle.call_laws.specs.Walk.{missing as missingNodes};
 ghost use Rattle.line_store.specs.Stored.{storedLine};
 use answer::Answer;
-
-// Loads the missing nodes of a path, if there are any.
-fn load_missing(h: usize, array: &[u8], p: usize, missing: u64, cache: &mut [u8])
-    requires { ⌜ Sized h (now array) (now cache) × ((p < pages h) × (missing ≡ missingNodes (now cache) p (suc h))) ⌝ }
-    ensures { λ _. ⌜ now (cache .exit) ≡ withPath h (now (array .entry)) p (suc h) (now (cache .entry)) ⌝ }
-{
-    if missing == 0 {
-        return;
-    }
-    loading::load(h, array, p, cache);
-}
 
 // The flag of a counter block's slot: clean where the block is stored.
 fn block_flag(minor: u64) -> u8
@@ -77,7 +66,7 @@ pub fn store_line(
     if stores < 2 * n as u64 + 3 {
         return Answer::Cut { stores };
     }
-    load_missing(h, array, p, missing, cache);
+    loading::load_missing(h, array, p, missing, cache);
     renewal::renew_path(h, p, tags, block, block_flag(minor), cache);
     Answer::Done { stores, sum: 0 }
 }

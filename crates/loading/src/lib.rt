@@ -87,6 +87,17 @@ pub fn load(h: usize, array: &[u8], p: usize, cache: &mut [u8])
     }
 }
 
+// Loads the missing nodes of a path, if there are any.
+pub fn load_missing(h: usize, array: &[u8], p: usize, missing: u64, cache: &mut [u8])
+    requires { ⌜ Sized h (now array) (now cache) × ((p < pages h) × (missing ≡ missingNodes (now cache) p (suc h))) ⌝ }
+    ensures { λ _. ⌜ now (cache .exit) ≡ withPath h (now (array .entry)) p (suc h) (now (cache .entry)) ⌝ }
+{
+    if missing == 0 {
+        return;
+    }
+    load(h, array, p, cache);
+}
+
 // Loads the missing nodes of a path under an allowance: done, or cut with the cache as it was.
 pub fn settle(
     h: usize,

@@ -1,7 +1,7 @@
 -- What a read or a write goes on with once it is accepted, and what walking its path then tells. Assumes nothing.
 use mathlib.Core.Path.{_≡_, sym, ap, ap₂, _∙_, subst}
-use mathlib.Core.Bool.{Bool, true}
-use mathlib.Core.List.{List}
+use mathlib.Core.Bool.{true}
+use mathlib.Core.List.{List, []}
 use Prim.Native.Nat.{ℕ, suc, _*_, _≤_, _<_, zero-le}
 use native.Mathlib.Omega.{arith}
 use lib.ListN.{length}
@@ -18,8 +18,9 @@ use Rattle.node.specs.Sized.{Sized}
 use Rattle.calls.specs.Path.{Loaded, loaded, differs, loadPath}
 use Rattle.calls.specs.Call.{Module, buffers, pathOf}
 use Rattle.calls.specs.Read.{pageBlock, lineMinor}
+use Rattle.calls.specs.Turn.{pagePath}
 use Rattle.call_laws.specs.Walk.{missing, pathCells, withPath}
-use Rattle.call_laws.proofs.Judged.{Entered, head-of}
+use Rattle.call_laws.proofs.Judged.{Opened, Accepted, head-of}
 use Rattle.call_laws.proofs.Loading.{path-content}
 use Rattle.call_laws.proofs.Loads.{Fit, path-few}
 use Rattle.path.specs.Told.{told, CounterOf}
@@ -45,6 +46,12 @@ module _ {h : ℕ} {a k c : List ℕ} {p : ℕ} (r : Ready h a k c p) where
   pub few : length (pathCells h c p (suc h)) ≤ 2 * h
   few = path-few h c fit p (r .page) (r .sized .deep)
 
+  -- the page's block, once its path is loaded
+  pub block-loaded : content (withPath h a p (suc h) c) (slotOf 0 p) ≡ current h a c 0 p
+  block-loaded =
+      subst (λ (i : ℕ). content (withPath h a p (suc h) c) (slotOf 0 i) ≡ current h a c 0 i) (path-bottom p)
+      (path-content h (r .sized .flat) [] a (r .sized .array) 0 p (r .page) c (r .sized .cache) 0 zero-le)
+
 -- ---- past the refusals
 
 -- what going on requires; b is the output or the text
@@ -66,53 +73,48 @@ ready-of keys b {h} {k} {a} {c} {line} p array-bytes control-bytes cache-bytes =
       cache-bytes = cache-bytes;
     }
 
-module _ {keys : List ℕ} {line : ℕ} {b : List ℕ} {m : Module} (e : Entered keys line b m) {h : ℕ} (deep : h ≡ depth (m .control)) where
-  pub sized-of : Sized h (m .array) (m .cache)
-  sized-of =
-      let head = head-of keys m (e .opening) in
-      record {
-        deep = omega (arith, head .deep);
-        flat = omega (arith, head .flat);
-        array = e .opening .fits .array ∙ ap arrayLength (sym deep);
-        cache = e .opening .fits .cache ∙ ap cacheLength (sym deep);
-      }
+-- lengths that fit the depth of the control record
+pub sized-of : {keys : List ℕ} {m : Module} {h : ℕ} → Opened keys m → h ≡ depth (m .control) → Sized h (m .array) (m .cache)
+sized-of {keys} {m} {h} o deep =
+    let head = head-of keys m o in
+    record {
+      deep = omega (arith, head .deep);
+      flat = omega (arith, head .flat);
+      array = o .fits .array ∙ ap arrayLength (sym deep);
+      cache = o .fits .cache ∙ ap cacheLength (sym deep);
+    }
 
-  pub accepts : formed h (m .cache) ≡ true → Accepts h keys (m .control) (m .array) (m .cache) line b
-  accepts shaped = (
-    e .opening .keys48,
-    (
-      e .opening .record664,
-      (deep, (sized-of, (shaped, (subst (λ (k : ℕ). line < lines k) (sym deep) (e .inside), e .buffer)))),
-    ),
-  )
+pub accepts : {keys : List ℕ} {line : ℕ} {b : List ℕ} {m : Module} {h : ℕ} → Accepted keys line b m → h ≡ depth (m .control)
+    → Accepts h keys (m .control) (m .array) (m .cache) line b
+accepts {keys} {line} {b} {m} {h} ok deep =
+    let e = ok .entry in
+    let shaped : formed h (m .cache) ≡ true = ap (λ (k : ℕ). formed k (m .cache)) deep ∙ ok .shaped in
+    let inside : line < lines h = subst (λ (k : ℕ). line < lines k) (sym deep) (e .inside) in
+    (e .opening .keys48, (e .opening .record681, (deep, (sized-of (e .opening) deep, (shaped, (inside, e .buffer))))))
 
-  pub formed-as : {t : Bool} → t ≡ formed h (m .cache) → formed (depth (m .control)) (m .cache) ≡ t
-  formed-as f = ap (λ (k : ℕ). formed k (m .cache)) (sym deep) ∙ sym f
+-- ---- what walking the path of a page tells
 
--- ---- what walking the path of a line tells
-
-module _ (keys : List ℕ) (line : ℕ) {h : ℕ} {a k c : List ℕ} (y : Ready h a k c (pageOf line)) (deep : h ≡ depth k) {p r : ℕ}
-    (page : p ≡ pageOf line) (top : r ≡ root k) {w : Path} (walk : w ≡ told (missing c p (suc h)) (loadPath h keys a r p c)) where
+module _ (keys : List ℕ) (q : ℕ) {h : ℕ} {a k c : List ℕ} (y : Ready h a k c q) (deep : h ≡ depth k) {p r : ℕ}
+    (page : p ≡ q) (top : r ≡ root k) {w : Path} (walk : w ≡ told (missing c p (suc h)) (loadPath h keys a r p c)) where
   abbrev found : Loaded
-  found = loadPath h keys a (root k) (pageOf line) c
+  found = loadPath h keys a (root k) q c
 
-  here : w ≡ told (missing c (pageOf line) (suc h)) found
-  here = walk ∙ ap₂ {C = Path} (λ (q x : ℕ). told (missing c q (suc h)) (loadPath h keys a x q c)) page top
+  here : w ≡ told (missing c q (suc h)) found
+  here = walk ∙ ap₂ {C = Path} (λ (i x : ℕ). told (missing c i (suc h)) (loadPath h keys a x i c)) page top
 
-  as-path : {l : Loaded} → found ≡ l → pathOf keys line (buffers a k c) ≡ l
-  as-path e = ap (λ (n : ℕ). loadPath n keys a (root k) (pageOf line) c) (sym deep) ∙ e
+  as-path : {l : Loaded} → found ≡ l → pagePath keys q (buffers a k c) ≡ l
+  as-path e = ap (λ (n : ℕ). loadPath n keys a (root k) q c) (sym deep) ∙ e
 
-  pub walk-differs : {l i : ℕ} → w ≡ Path·variants.Differs l i → pathOf keys line (buffers a k c) ≡ differs l i
+  pub walk-differs : {l i : ℕ} → w ≡ Path·variants.Differs l i → pagePath keys q (buffers a k c) ≡ differs l i
   walk-differs {l} {i} e =
-      as-path (differs-told h (y .sized .flat) keys a (y .sized .array) (root k) (pageOf line) (y .page) c (y .sized .cache)
-      (missing c (pageOf line) (suc h)) l i (sym e ∙ here))
+      as-path (differs-told h (y .sized .flat) keys a (y .sized .array) (root k) q (y .page) c (y .sized .cache) (missing c q (suc h)) l i
+      (sym e ∙ here))
 
   pub walk-loaded : {j : ℕ} → w ≡ Path·variants.Loaded j
-      → (j ≡ missing c (pageOf line) (suc h))
-      × (pathOf keys line (buffers a k c) ≡ loaded (withPath h a (pageOf line) (suc h) c) (pathCells h c (pageOf line) (suc h)))
+      → (j ≡ missing c q (suc h)) × (pagePath keys q (buffers a k c) ≡ loaded (withPath h a q (suc h) c) (pathCells h c q (suc h)))
   walk-loaded {j} e =
-      let both = loaded-told h (y .sized .flat) keys a (y .sized .array) (root k) (pageOf line) (y .page) c (y .sized .cache)
-      (missing c (pageOf line) (suc h)) j (sym e ∙ here) in
+      let both = loaded-told h (y .sized .flat) keys a (y .sized .array) (root k) q (y .page) c (y .sized .cache) (missing c q (suc h)) j
+      (sym e ∙ here) in
       (both .0, as-path (both .1))
 
 -- the path of a line is loaded, and r is its counter
@@ -128,10 +130,7 @@ module _ {h : ℕ} {keys a k c : List ℕ} {line : ℕ} {r : Counter} (f : Found
 
   -- the block that is loaded is the one that the counter was found in
   pub block-found : pageBlock d line ≡ current h a c 0 (pageOf line)
-  block-found =
-      let y = f .ready in
-      subst (λ (i : ℕ). content d (slotOf 0 i) ≡ current h a c 0 i) (path-bottom (pageOf line))
-      (path-content h (y .sized .flat) keys a (y .sized .array) (root k) (pageOf line) (y .page) c (y .sized .cache) 0 zero-le)
+  block-found = block-loaded (f .ready)
 
   pub minor-found : lineMinor d line ≡ r .minor
   minor-found = ap (λ (b : List ℕ). minor b (placeOf line)) block-found ∙ sym (f .counter .minor-is)

@@ -66,7 +66,7 @@ pub fn read(
         ≡ reading (now (keys .entry)) line allowance (now (out .entry))
         (buffers (now (array .entry)) (now (control .entry)) (now (cache .entry))) ⌝ }
 {
-    let number = access::entry(keys, control, array, cache, line, out);
+    let number = access::access(keys, control, array, cache, line, out);
     if number != 0 {
         return Answer::Refused {
             number,
@@ -75,17 +75,8 @@ pub fn read(
             second: 0,
         };
     }
-    let h = control::depth(control);
-    if !cache::formed(h, cache) {
-        return Answer::Refused {
-            number: 23,
-            stores: 0,
-            first: 0,
-            second: 0,
-        };
-    }
     read_line(
-        h,
+        control::depth(control),
         keys,
         control,
         array,

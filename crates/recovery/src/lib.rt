@@ -27,10 +27,11 @@ fn rebuild(
     ensures { λ r. ⌜ ended r (now (array .entry)) (now (control .entry)) (now (cache .exit))
         ≡ recoverRebuilt (now (keys .entry)) stores (buffers (now (array .entry)) (now (control .entry)) (now (cache .entry)))
         (take (slotsOf (depthOf (now (control .entry)))) owners)
-        (rebuildBlocks (depthOf (now (control .entry))) (now (array .entry)) 0 (take 4 owners) (now (image .entry)) 0) ⌝ }
+        (rebuildBlocks (depthOf (now (control .entry))) (now (control .entry)) (now (array .entry)) 0 (take 4 owners)
+        (now (image .entry)) 0) ⌝ }
 {
     let h = control::depth(control);
-    let counters = forwarding::rebuild_counters(h, array, owners, image);
+    let counters = forwarding::rebuild_counters(h, control, array, owners, image);
     let Counters::Sum(sum) = counters else {
         return Answer::Refused {
             number: 28,

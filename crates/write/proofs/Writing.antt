@@ -16,9 +16,9 @@ use Rattle.journal.specs.Journal.{batchStores}
 use Rattle.calls.specs.Path.{differs, renewPath, renewedRoot}
 use Rattle.calls.specs.Call.{Module, Called, buffers, ended, storing, pathOf, accessRefusal}
 use Rattle.calls.specs.Read.{lineMinor}
-use Rattle.calls.specs.Write.{newMinor, newBlock, stopLoss, dataCell, writeBatch, writeStores}
+use Rattle.calls.specs.Write.{newMinor, newBlock, stopLoss, lineCell, dataCell, writeBatch, writeStores}
 use Rattle.calls.specs.Write.{writtenCache, writeLoaded, writePath, writeJudged, write}
-use Rattle.call_laws.specs.Line.{lineCell, blockCells, lineCells}
+use Rattle.call_laws.specs.Line.{blockCells, lineCells}
 use Rattle.call_laws.specs.Walk.{pathCells, withPath}
 use Rattle.path.specs.declared.Counter.{Counter}
 use Rattle.path.proofs.Ready.{Found, block-found, major-found, minor-found}
@@ -58,7 +58,7 @@ module _ {h : ℕ} {keys a k c : List ℕ} {line : ℕ} {n : Counter} (found : F
   next-block = ap₂ {C = List ℕ} (λ (b : List ℕ) (i : ℕ). withMinor b (placeOf line) i) (block-found found) next-minor
 
   next-cell : dataCell keys line text d ≡ lineCell keys line text (n .major) (n .minor + 1)
-  unfolding dataCell lineCell
+  unfolding lineCell
   next-cell = ap₂ {C = Cell} (λ (i j : ℕ). lineCell keys line text i j) (major-found found) next-minor
 
   next-batch : writeBatch h keys line text d x ≡ lineCells h keys c line text (n .major) (n .minor + 1) next

@@ -117,7 +117,7 @@ pub fn write(
         ≡ writing (now (keys .entry)) line (now (text .entry)) allowance
         (buffers (now (array .entry)) (now (control .entry)) (now (cache .entry))) ⌝ }
 {
-    let number = access::entry(keys, control, array, cache, line, text);
+    let number = access::access(keys, control, array, cache, line, text);
     if number != 0 {
         return Answer::Refused {
             number,
@@ -126,17 +126,8 @@ pub fn write(
             second: 0,
         };
     }
-    let h = control::depth(control);
-    if !cache::formed(h, cache) {
-        return Answer::Refused {
-            number: 23,
-            stores: 0,
-            first: 0,
-            second: 0,
-        };
-    }
     write_line(
-        h,
+        control::depth(control),
         keys,
         control,
         array,

@@ -32,7 +32,7 @@ depth-requires : tie.Need-depth-requires
 depth-requires c κs = search needs
 
 deep : (c : tie.After-depth) → (1 ≤ c .depth .result) × (c .depth .result ≤ 3)
-deep c = let head = valid-parts (is-valid (c .before)) .0 in omega (arith, c .depth .ensures, head .deep, head .flat)
+deep c = let head = valid-parts (is-valid (c .before)) .head in omega (arith, c .depth .ensures, head .deep, head .flat)
 
 cache-length-requires : tie.Need-cache-length-requires
 cache-length-requires c κs = deep c

@@ -84,7 +84,7 @@ node-tag-requires c κs =
 put-control-requires : tie.Need-put-control-requires
 put-control-requires c κs =
     let at = tested (zero-at (c .before .before .before .before .before .before .before)) in
-    (ok at .high, ok at .record664)
+    (ok at .high, ok at .record681)
 
 zero-requires-2 : tie.Need-zero-requires-2
 zero-requires-2 c κs = search needs

@@ -12,35 +12,36 @@ use Rattle.memory_map.specs.Map.Item.{node}
 use Rattle.memory_map.proofs.Laws.{index-small}
 use Rattle.slot_map.proofs.Laws.{level-low}
 use Rattle.counter.proofs.Laws.{length-minors, below-minors}
+use Rattle.control.specs.Control.{isOpen}
 use Rattle.cache.specs.Cache.{cellContent}
 use Rattle.cache.proofs.Laws.{cell-length, slot-room}
 use Rattle.node.proofs.Laws.{cell-room}
 use Rattle.calls.specs.Recovery.{rebuilt}
 use Rattle.forwarding.specs.Rebuild.{counted}
-use Rattle.forwarding.proofs.Forward.{Forwarding, forwarding-none, forwarding-next, forwarded-ge, forwarded-le}
+use Rattle.forwarding.proofs.Forward.{Forwarding, forwarding-none, forwarding-next, forwarded-ge, forwarded-le, few-lines}
 use Rattle.forwarding.proofs.Blocks.{Rebuilding, rebuilding-empty, rebuilding-fails, rebuilding-next, rebuilding-same}
 use Rattle.forwarding.proofs.Blocks.{blocks-end, placed-node, page-lines}
 use Rattle.forwarding.proofs.rebuild_counters.Statement.{statement}
 use Rattle.forwarding.proofs.rebuild_counters.Tie as tie
 
 abbrev Inv-loop : tie.InvT-loop
-Inv-loop h array image owners sum₀ s owner page block minors₀ j₀ sum minors j =
-    (j ≤ 64) × Forwarding array (64 * page) minors₀ sum₀ minors j sum
+Inv-loop h control array image owners sum₀ s owner page block minors₀ n j₀ sum minors j =
+    (j ≤ n) × ((n ≤ 64) × Forwarding array (64 * page) minors₀ sum₀ minors j sum)
 
 abbrev μ-loop : tie.MeasureT-loop
-μ-loop h array image owners sum₀ s owner page block minors₀ j₀ sum minors j = 64 - j
+μ-loop h control array image owners sum₀ s owner page block minors₀ n j₀ sum minors j = n - j
 
 abbrev Inv-slots : tie.InvT-slots
-Inv-slots h array image₀ owners sum₀ s₀ image sum s = Rebuilding h array owners image₀ image sum s
+Inv-slots h control array image₀ owners sum₀ s₀ image sum s = Rebuilding h control array owners image₀ image sum s
 
 abbrev μ-slots : tie.MeasureT-slots
-μ-slots h array image₀ owners sum₀ s₀ image sum s = 4 - s
+μ-slots h control array image₀ owners sum₀ s₀ image sum s = 4 - s
 
 -- what is lent
 abbrev start : tie.At-slots Inv-loop μ-loop Inv-slots μ-slots → tie.Start Inv-loop μ-loop Inv-slots μ-slots
-start c = c .before .before .before
+start c = c .before .before .before .before
 
-ten : (c : tie.At-slots Inv-loop μ-loop Inv-slots μ-slots) → length (start c .args .t3) ≡ 10
+ten : (c : tie.At-slots Inv-loop μ-loop Inv-slots μ-slots) → length (start c .args .t4) ≡ 10
 ten c = let a = start c .args in search needs
 
 within : (c : tie.At-slots Inv-loop μ-loop Inv-slots μ-slots) → c .slots .s < 4 → c .slots .s < slots (start c .args .h)
@@ -50,18 +51,18 @@ within c p = omega arith
 -- the owner of a filled slot is a page of the map
 inside : (c : tie.Then1 Inv-loop μ-loop Inv-slots μ-slots)
     → let at = c .before .before in let a = start at .args in
-    InMap (a .h) (node 0 (getD (a .t3) (at .slots .s) 0 - 1))
+    InMap (a .h) (node 0 (getD (a .t4) (at .slots .s) 0 - 1))
 inside c =
     let at = c .before .before in
     let s = start at in
     let low = c .before .slots-test .taken in
-    subst (λ (l : ℕ). InMap (s .args .h) (node l (getD (s .args .t3) (at .slots .s) 0 - 1))) (level-low (at .slots .s) low)
-    (placed-node (s .args .h) (s .args .t3) (s .pre .1) (at .slots .s) _ (within at low) refl (c .if1 .taken))
+    subst (λ (l : ℕ). InMap (s .args .h) (node l (getD (s .args .t4) (at .slots .s) 0 - 1))) (level-low (at .slots .s) low)
+    (placed-node (s .args .h) (s .args .t4) (s .pre .1 .1) (at .slots .s) _ (within at low) refl (c .if1 .taken))
 
 slots-holds : tie.Need-slots-holds Inv-loop μ-loop Inv-slots μ-slots
 slots-holds c =
-    let s = c .before .before in
-    record { most = zero-le; few = zero-le; full = s .pre .0 .cache; rest = refl }
+    let s = c .before .before .before in
+    record { most = zero-le; few = zero-le; full = s .pre .1 .0 .cache; rest = refl }
 
 mul-owner : tie.Need-mul-owner Inv-loop μ-loop Inv-slots μ-slots
 mul-owner c = omega arith
@@ -73,12 +74,12 @@ sub-page : tie.Need-sub-page Inv-loop μ-loop Inv-slots μ-slots
 sub-page c = omega arith
 
 node-cell-requires : tie.Need-node-cell-requires Inv-loop μ-loop Inv-slots μ-slots
-node-cell-requires c κs = let z = start (c .before .before) .pre .0 in (z .deep, (z .flat, inside c))
+node-cell-requires c κs = let z = start (c .before .before) .pre .1 .0 in (z .deep, (z .flat, inside c))
 
 in-cell-requires : tie.Need-in-cell-requires Inv-loop μ-loop Inv-slots μ-slots
 in-cell-requires c κs =
     let s = start (c .before .before .before) in
-    rw (c .node-cell .ensures) (cell-room _ (s .args .array .now) _ _ (s .pre .0 .array) (inside (c .before)))
+    rw (c .node-cell .ensures) (cell-room _ (s .args .array .now) _ _ (s .pre .1 .0 .array) (inside (c .before)))
 
 slice-aggregate-unpack : tie.Need-slice-aggregate-unpack Inv-loop μ-loop Inv-slots μ-slots
 slice-aggregate-unpack c = search needs
@@ -88,27 +89,36 @@ block-full : (c : tie.After-in-cell Inv-loop μ-loop Inv-slots μ-slots) → len
 block-full c =
     let s = start (c .before .before .before .before) in
     ap length (c .in-cell .ensures ∙ ap (cellContent (s .args .array .now)) (c .before .node-cell .ensures))
-    ∙ cell-length (s .args .h) (s .args .array .now) _ (s .pre .0 .array) (inside (c .before .before))
+    ∙ cell-length (s .args .h) (s .args .array .now) _ (s .pre .1 .0 .array) (inside (c .before .before))
 
 unpack-requires : tie.Need-unpack-requires Inv-loop μ-loop Inv-slots μ-slots
 unpack-requires c κs = (block-full (c .before), search needs)
 
 loop-holds : tie.Need-loop-holds Inv-loop μ-loop Inv-slots μ-slots
 loop-holds c =
-    let is = c .before .unpack .ensures in
-    (zero-le, forwarding-none _ _ _ _ (ap length is ∙ length-minors _) (subst (λ (l : List ℕ). Below 128 l) (sym is) (below-minors _)))
+    let is = c .before .before .unpack .ensures in (
+      zero-le,
+      (
+        few-lines (isOpen (start (c .before .before .before .before .before .before .before .before) .args .control .now) _) _
+            (c .lines-read .ensures),
+        forwarding-none _ _ _ _ (ap length is ∙ length-minors _) (subst (λ (l : List ℕ). Below 128 l) (sym is) (below-minors _)),
+      ),
+    )
 
 -- the slot, seen from the loop over its lines
 abbrev slot : tie.At-loop Inv-loop μ-loop Inv-slots μ-slots → tie.Then1 Inv-loop μ-loop Inv-slots μ-slots
-slot c = c .before .before .before .before .before .before
+slot c = c .before .before .before .before .before .before .before
+
+lines-read-requires : tie.Need-lines-read-requires Inv-loop μ-loop Inv-slots μ-slots
+lines-read-requires c κs = start (c .before .before .before .before .before .before .before) .pre .0
 
 array-read-minor : tie.Need-array-read-minor Inv-loop μ-loop Inv-slots μ-slots
-array-read-minor c = omega (arith, c .before .loop .inv .1 .size)
+array-read-minor c = omega (arith, c .before .loop .inv .1 .1 .size)
 
 small : (c : tie.At-loop Inv-loop μ-loop Inv-slots μ-slots)
     → let at = slot c .before .before in
-    getD (start at .args .t3) (at .slots .s) 0 - 1 < 512
-small c = let s = start (slot c .before .before) in index-small (s .args .h) 0 _ (inside (slot c)) (s .pre .0 .flat)
+    getD (start at .args .t4) (at .slots .s) 0 - 1 < 512
+small c = let s = start (slot c .before .before) in index-small (s .args .h) 0 _ (inside (slot c)) (s .pre .1 .0 .flat)
 
 mul-forwarded : tie.Need-mul-forwarded Inv-loop μ-loop Inv-slots μ-slots
 mul-forwarded c = omega (arith, small (c .before))
@@ -126,10 +136,10 @@ shared-slice-read-forwarded : tie.Need-shared-slice-read-forwarded Inv-loop μ-l
 shared-slice-read-forwarded c =
     let at = c .before .before in
     let s = start (slot at .before .before) in
-    omega (arith, page-lines (s .args .h) (s .args .array .now) _ (s .pre .0 .array) (inside (slot at)))
+    omega (arith, page-lines (s .args .h) (s .args .array .now) _ (s .pre .1 .0 .array) (inside (slot at)))
 
 forwarded-requires : tie.Need-forwarded-requires Inv-loop μ-loop Inv-slots μ-slots
-forwarded-requires c κs = let at = c .before .before in at .loop .inv .1 .few .at (at .loop .j)
+forwarded-requires c κs = let at = c .before .before in at .loop .inv .1 .1 .few .at (at .loop .j)
 
 -- a line whose minor may be brought forward
 steps : (c : tie.Else2 Inv-loop μ-loop Inv-slots μ-slots)
@@ -138,13 +148,15 @@ steps : (c : tie.Else2 Inv-loop μ-loop Inv-slots μ-slots)
 steps c =
     let made = c .before in
     let turn = made .before .before in
-    let f = turn .before .loop .inv .1 in (
-      forwarded-ge _ _ _ _ f (turn .loop-test .taken) (made .forwarded .ensures) (c .if2 .left),
-      forwarded-le _ _ _ _ f (turn .loop-test .taken) (made .forwarded .ensures) (c .if2 .left),
+    let f = turn .before .loop .inv .1 .1 in (
+      forwarded-ge _ _ _ _ f (omega (arith, turn .loop-test .taken, turn .before .loop .inv .1 .0)) (made .forwarded .ensures)
+          (c .if2 .left),
+      forwarded-le _ _ _ _ f (omega (arith, turn .loop-test .taken, turn .before .loop .inv .1 .0)) (made .forwarded .ensures)
+          (c .if2 .left),
     )
 
 array-write-minors : tie.Need-array-write-minors Inv-loop μ-loop Inv-slots μ-slots
-array-write-minors c = let at = c .before .before .before .before in omega (arith, at .loop .inv .1 .size)
+array-write-minors c = let at = c .before .before .before .before in omega (arith, at .loop .inv .1 .1 .size)
 
 sub-sum : tie.Need-sub-sum Inv-loop μ-loop Inv-slots μ-slots
 sub-sum c = omega (arith, steps c .0)
@@ -155,7 +167,14 @@ cast-sum c = omega arith
 add-sum : tie.Need-add-sum Inv-loop μ-loop Inv-slots μ-slots
 add-sum c =
     let at = c .before .before .before .before in
-    omega (arith, steps c .1, at .loop .inv .1 .least, slot at .before .before .slots .inv .few, slot at .before .before .slots .inv .most)
+    omega (
+      arith,
+      steps c .1,
+      at .loop .inv .1 .1 .least,
+      slot at .before .before .slots .inv .few,
+      slot at .before .before .slots .inv
+          .most,
+    )
 
 add-j : tie.Need-add-j Inv-loop μ-loop Inv-slots μ-slots
 add-j c = omega arith
@@ -166,20 +185,26 @@ loop-less c = omega arith
 loop-again : tie.Need-loop-again Inv-loop μ-loop Inv-slots μ-slots
 loop-again c =
     let made = c .before in
-    let turn = made .before .before in
-    (omega arith, forwarding-next _ _ _ _ (turn .before .loop .inv .1) (turn .loop-test .taken) (made .forwarded .ensures) (c .if2 .left))
+    let turn = made .before .before in (
+      omega arith,
+      (
+        made .before .before .before .loop .inv .1 .0,
+        forwarding-next _ _ _ _ (turn .before .loop .inv .1 .1)
+            (omega (arith, turn .loop-test .taken, turn .before .loop .inv .1 .0)) (made .forwarded .ensures) (c .if2 .left),
+      ),
+    )
 
 major-requires : tie.Need-major-requires Inv-loop μ-loop Inv-slots μ-slots
-major-requires c κs = block-full (c .before .before .before .before .before .before)
+major-requires c κs = block-full (c .before .before .before .before .before .before .before)
 
 slice-aggregate-put-block : tie.Need-slice-aggregate-put-block Inv-loop μ-loop Inv-slots μ-slots
-slice-aggregate-put-block c = sym (c .before .before .before .before .loop .inv .1 .size)
+slice-aggregate-put-block c = sym (c .before .before .before .before .loop .inv .1 .1 .size)
 
 put-block-requires : tie.Need-put-block-requires Inv-loop μ-loop Inv-slots μ-slots
 put-block-requires c κs =
     let at = c .before .before .before .before in
     let out = slot at .before .before in
-    let f = at .loop .inv .1 in
+    let f = at .loop .inv .1 .1 in
     let low = within out (slot at .before .slots-test .taken) in
     ((slot-room (start out .args .h) (out .slots .s) (out .slots .image) (out .slots .inv .full) low, f .size), f .few .at)
 
@@ -195,15 +220,17 @@ slots-again c =
     let a = start at .args in
     let p = c .before .slots-test .taken in
     ⊎-elim
-    (λ w. rebuilding-same (a .h) (a .array .now) (a .t3)
-    (rebuilding-next (a .h) (a .array .now) (a .t3) (ten at) (at .slots .inv) p (w .0 .taken) (w .1 .ensures) (w .2 .ensures)
-    (w .4 .ensures) (w .6 .inv .1) (w .6 .inv .0) (w .7 .left) (w .9 .ensures) (w .11 .ensures) (w .11 .kept .0)) (w .14) (w .15))
-    (λ w. rebuilding-same (a .h) (a .array .now) (a .t3)
-    (rebuilding-empty (a .h) (a .array .now) (a .t3) (ten at) (at .slots .inv) p (w .0 .left)) (w .1) (w .2))
+    (λ w. rebuilding-same (a .h) (a .control .now) (a .array .now) (a .t4)
+    (rebuilding-next (a .h) (a .control .now) (a .array .now) (a .t4) (ten at) (at .slots .inv) p (w .0 .taken) (w .1 .ensures)
+    (w .2 .ensures)
+    (w .4 .ensures) (w .7 .inv .1 .1) (w .6 .ensures) (w .7 .inv .0) (w .8 .left) (omega (arith, w .7 .inv .0, w .7 .inv .1 .0))
+    (w .10 .ensures) (w .12 .ensures) (w .12 .kept .0)) (w .15) (w .16))
+    (λ w. rebuilding-same (a .h) (a .control .now) (a .array .now) (a .t4)
+    (rebuilding-empty (a .h) (a .control .now) (a .array .now) (a .t4) (ten at) (at .slots .inv) p (w .0 .left)) (w .1) (w .2))
     (c .if1 .came)
 
 same-length : tie.Need-same-length Inv-loop μ-loop Inv-slots μ-slots
-same-length c = let at = c .before .before in at .slots .inv .full ∙ sym (start at .pre .0 .cache)
+same-length c = let at = c .before .before in at .slots .inv .full ∙ sym (start at .pre .1 .0 .cache)
 
 returns : tie.Need-returns Inv-loop μ-loop Inv-slots μ-slots
 unfolding counted
@@ -211,12 +238,13 @@ returns c =
     let at = c .before .before in
     let a = start at .args in
     ⊎-elim (λ w. absurd (omega (arith, w .0 .left)))
-    (λ w. rebuilding-fails (a .h) (a .array .now) (a .t3) (ten at) (at .slots .inv) (w .0 .taken) (w .1 .taken) (w .2 .ensures)
-    (w .3 .ensures) (w .5 .ensures) (w .7 .inv .1) (w .8 .taken) (w .10 .ensures) (w .11 .taken))
+    (λ w. rebuilding-fails (a .h) (a .control .now) (a .array .now) (a .t4) (ten at) (at .slots .inv) (w .0 .taken) (w .1 .taken)
+    (w .2 .ensures)
+    (w .3 .ensures) (w .5 .ensures) (w .8 .inv .1 .1) (w .7 .ensures) (w .9 .taken) (w .11 .ensures) (w .12 .taken))
     (c .before .slots-test .came)
 
 same-length-2 : tie.Need-same-length-2 Inv-loop μ-loop Inv-slots μ-slots
-same-length-2 c = let at = c .before .before in at .slots .inv .full ∙ sym (start at .pre .0 .cache)
+same-length-2 c = let at = c .before .before in at .slots .inv .full ∙ sym (start at .pre .1 .0 .cache)
 
 returns-2 : tie.Need-returns-2 Inv-loop μ-loop Inv-slots μ-slots
 unfolding counted
@@ -226,7 +254,7 @@ returns-2 c =
     ⊎-elim
     (λ w. ap (λ (n : ℕ). rebuilt (at .slots .image) n) (w .1)
     ∙ sym (at .slots .inv .rest
-    ∙ blocks-end (a .h) (a .array .now) (a .t3) (at .slots .s) (w .0 .left) (at .slots .image) (at .slots .sum)))
+    ∙ blocks-end (a .h) (a .control .now) (a .array .now) (a .t4) (at .slots .s) (w .0 .left) (at .slots .image) (at .slots .sum)))
     (λ w. absurd (omega (arith, w .0 .taken)))
     (c .before .slots-test .came)
 
@@ -246,6 +274,7 @@ rebuild-counters-spec =
     in-cell-requires
     slice-aggregate-unpack
     unpack-requires
+    lines-read-requires
     loop-holds
     array-read-minor
     mul-forwarded

@@ -9,7 +9,7 @@ use Rattle.words.specs.Bytes.{put}
 use Rattle.words.proofs.Puts.{part-put}
 use Rattle.control.specs.Control.{placeAt}
 use Rattle.batch.proofs.Laws.{staged-past}
-use Rattle.call_laws.specs.Line.{lineCell}
+use Rattle.calls.specs.Write.{lineCell}
 use Rattle.call_laws.proofs.Line.{line-cell-length}
 use Rattle.line_batch.proofs.Laws.{line-put}
 use Rattle.line_batch.proofs.put_data.Statement.{statement}

@@ -80,7 +80,7 @@ returns c =
     ap (λ (r : Answer). endedRead r (a .array .now) (a .control .now) (a .cache .now) (a .out .now))
     (c .refused .ensures ∙ ap refusalOf told)
     ∙ read-differs (a .keys .now) (a .line) (a .allowance) (a .out .now) (buffers (a .array .now) (a .control .now) (a .cache .now))
-    (walk-differs (a .keys .now) (a .line) (ready at) (start at .pre .1 .1 .0)
+    (walk-differs (a .keys .now) (pageOf (a .line)) (ready at) (start at .pre .1 .1 .0)
     (walk .before .before .before .before .before .page-of .ensures)
     (walk .before .root .ensures) (walk .walk .ensures) told)
 
@@ -97,7 +97,7 @@ loads c =
     let walk = walked c in
     let at = known walk in
     let a = start at .args in
-    walk-loaded (a .keys .now) (a .line) (ready at) (start at .pre .1 .1 .0)
+    walk-loaded (a .keys .now) (pageOf (a .line)) (ready at) (start at .pre .1 .1 .0)
     (walk .before .before .before .before .before .page-of .ensures)
     (walk .before .root .ensures) (walk .walk .ensures) (c .path .given .1)
 

@@ -40,7 +40,7 @@ depth-requires : tie.Need-depth-requires
 depth-requires c κs = search needs
 
 rebuild-counters-requires : tie.Need-rebuild-counters-requires
-rebuild-counters-requires c κs = let at = c .before in (sized at _ (search needs), belong at)
+rebuild-counters-requires c κs = let at = c .before in (start at .pre .0 .1 .0, (sized at _ (search needs), belong at))
 
 enum-known-counters : tie.Need-enum-known-counters
 enum-known-counters c = search needs
@@ -51,13 +51,13 @@ enum-told c = search needs
 -- what the counters are, at the control record's depth
 rebuilt-as : (c : tie.After-rebuild-counters) {r : Counters} → c .rebuild-counters .result ≡ r
     → let at = c .before .before in let a = start at .args in
-    counted r (c .rebuild-counters .last .1 .1 .1 .0)
-    ≡ rebuildBlocks (depth (a .control .now)) (a .array .now) 0 (take 4 (a .owners)) (a .image .now) 0
+    counted r (c .rebuild-counters .last .1 .1 .1 .1 .0)
+    ≡ rebuildBlocks (depth (a .control .now)) (a .control .now) (a .array .now) 0 (take 4 (a .owners)) (a .image .now) 0
 rebuilt-as c e =
     let at = c .before .before in
     let a = start at .args in
-    ap (λ (r : Counters). counted r (c .rebuild-counters .last .1 .1 .1 .0)) (sym e) ∙ c .rebuild-counters .ensures
-    ∙ ap (λ (n : ℕ). rebuildBlocks n (a .array .now) 0 (take 4 (a .owners)) (a .image .now) 0) (at .depth .ensures)
+    ap (λ (r : Counters). counted r (c .rebuild-counters .last .1 .1 .1 .1 .0)) (sym e) ∙ c .rebuild-counters .ensures
+    ∙ ap (λ (n : ℕ). rebuildBlocks n (a .control .now) (a .array .now) 0 (take 4 (a .owners)) (a .image .now) 0) (at .depth .ensures)
 
 same-length : tie.Need-same-length
 same-length c = search needs
@@ -76,11 +76,11 @@ found c = c .before .before .before .before .before .before
 rebuild-nodes-requires : tie.Need-rebuild-nodes-requires
 rebuild-nodes-requires c κs =
     let at = found c .before .before in
-    (start at .pre .0 .0, (sized at _ (found c .rebuild-counters .kept .1 .1 .1 .0), belong at))
+    (start at .pre .0 .0, (sized at _ (found c .rebuild-counters .kept .1 .1 .1 .1 .0), belong at))
 
 same-size : (c : tie.After-rebuild-nodes)
     → length (c .rebuild-nodes .last .1 .1 .1 .1 .0) ≡ length (start (found (c .before) .before .before) .args .image .now)
-same-size c = c .rebuild-nodes .kept .1 .1 .1 .1 .0 ∙ found (c .before) .rebuild-counters .kept .1 .1 .1 .0
+same-size c = c .rebuild-nodes .kept .1 .1 .1 .1 .0 ∙ found (c .before) .rebuild-counters .kept .1 .1 .1 .1 .0
 
 top-tag-requires : tie.Need-top-tag-requires
 top-tag-requires c κs =
@@ -99,12 +99,12 @@ nodes-as : (c : tie.After-root)
     → let a = start (read c) .args in
     filled c .rebuild-nodes .last .1 .1 .1 .1 .0
     ≡ rebuildNodes (depth (a .control .now)) (a .keys .now) (a .array .now) 4 (drop 4 (take (slots (depth (a .control .now))) (a .owners)))
-    (found (filled c .before) .rebuild-counters .last .1 .1 .1 .0)
+    (found (filled c .before) .rebuild-counters .last .1 .1 .1 .1 .0)
 nodes-as c =
     let a = start (read c) .args in
     filled c .rebuild-nodes .ensures
     ∙ ap (λ (n : ℕ). rebuildNodes n (a .keys .now) (a .array .now) 4 (drop 4 (take (slots n) (a .owners)))
-    (found (filled c .before) .rebuild-counters .last .1 .1 .1 .0)) (read c .depth .ensures)
+    (found (filled c .before) .rebuild-counters .last .1 .1 .1 .1 .0)) (read c .depth .ensures)
 
 tag-as : (c : tie.After-root)
     → let a = start (read c) .args in let h = depth (a .control .now) in

@@ -55,17 +55,17 @@ bytes c =
     }
 
 count-requires : tie.Need-count-requires
-count-requires c κs = opened (c .before) .record664
+count-requires c κs = opened (c .before) .record681
 
 finish-requires : tie.Need-finish-requires
 finish-requires c κs =
     let test = c .before .before .before .before in
     let o = opened test in
     let a = start (test .before) .args in (
-      o .record664,
+      o .record681,
       (
         head-of _ _ o .few,
-        rw (array-cells (depth (a .control .now)) (length (a .array .now)) (o .fits .array)) (valid-parts (o .right) .1),
+        rw (array-cells (depth (a .control .now)) (length (a .array .now)) (o .fits .array)) (valid-parts (o .right) .cells-in),
       ),
     )
 
@@ -133,7 +133,7 @@ recover-media-requires c κs =
     let a = start (test .before) .args in (
       o .keys48,
       (
-        at .finish .kept .1 .0 ∙ o .record664,
+        at .finish .kept .1 .0 ∙ o .record681,
         subst (λ (h : ℕ). Sized h (at .finish .last .0) (a .cache .now)) (sym (same-depth at))
             (record { deep = head .deep; flat = head .flat; array = at .finish .kept .0 ∙ o .fits .array; cache = o .fits .cache }),
       ),

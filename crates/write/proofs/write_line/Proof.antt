@@ -69,7 +69,7 @@ returns c =
     let told = c .before .enum-told .given .1 in
     ap (λ (r : Answer). ended r (a .array .now) (a .control .now) (a .cache .now)) (c .refused .ensures ∙ ap refusalOf told)
     ∙ write-differs (a .keys .now) (a .line) (a .text .now) (a .allowance) (buffers (a .array .now) (a .control .now) (a .cache .now))
-    (walk-differs (a .keys .now) (a .line) (ready at) (start at .pre .1 .1 .0)
+    (walk-differs (a .keys .now) (pageOf (a .line)) (ready at) (start at .pre .1 .1 .0)
     (walk .before .before .before .before .before .page-of .ensures)
     (walk .before .root .ensures) (walk .walk .ensures) told)
 
@@ -86,7 +86,7 @@ loads c =
     let walk = walked c in
     let at = known walk in
     let a = start at .args in
-    walk-loaded (a .keys .now) (a .line) (ready at) (start at .pre .1 .1 .0)
+    walk-loaded (a .keys .now) (pageOf (a .line)) (ready at) (start at .pre .1 .1 .0)
     (walk .before .before .before .before .before .page-of .ensures)
     (walk .before .root .ensures) (walk .walk .ensures) (c .path .given .1)
 

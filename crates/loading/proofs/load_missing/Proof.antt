@@ -1,10 +1,10 @@
--- `line_store::load_missing` meets its contract. Assumes nothing.
+-- `loading::load_missing` meets its contract. Assumes nothing.
 use mathlib.Core.Path.{sym, _∙_}
 use Prim.Native.Nat.{suc}
 use borrow.Author.Needs.{needs}
 use Rattle.call_laws.proofs.Loads.{none-missing}
-use Rattle.line_store.proofs.load_missing.Statement.{statement}
-use Rattle.line_store.proofs.load_missing.Tie as tie
+use Rattle.loading.proofs.load_missing.Statement.{statement}
+use Rattle.loading.proofs.load_missing.Tie as tie
 
 returns : tie.Need-returns
 returns c =
