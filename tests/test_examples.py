@@ -129,6 +129,13 @@ def turned(start):
         "last", "batchesOf 1 (upTo 48 0) (start .array) (start .cache) 0 0 [] (2 ∷ [])\n    ≡ %s" % last, " start")
 
 
+def finished(start):
+    """How many stores of a turn of page 0 come before the commit of its last batch."""
+    _, stores, _ = model.turn_stores(KEYS, 0, start)
+    before = max(k for k, store in enumerate(stores) if len(store.pieces) == 2)
+    return theorem("finished", "beforeLast (turnBatches (upTo 48 0) 0 start (start .cache) []) ≡ %d" % before, " start")
+
+
 def rebuilt_open(start):
     """Recovery takes the block of an open page from the array."""
     answer, module = model.recover_call(KEYS, 0, start._replace(control=opened(start)))
@@ -175,7 +182,7 @@ use Rattle.cache.specs.Cache.{emptyCache}
 use Rattle.control.specs.Control.{Cell}
 use Rattle.calls.specs.Call.{Module, Called, accessRefusal}
 use Rattle.calls.specs.Write.{write}
-use Rattle.calls.specs.Turn.{Batch, turnRefusal, turnFront, turnBatches, batchesOf}
+use Rattle.calls.specs.Turn.{Batch, turnRefusal, turnFront, turnBatches, batchesOf, beforeLast}
 use Rattle.calls.specs.Recovery.{rebuilt, rebuildBlocks, rebuildNodes}
 use Rattle.calls.specs.DirtyPages.{dirtyPages}
 use Rattle.calls.proofs.Run.{run}
@@ -215,7 +222,7 @@ def main(words):
         return 2
     start = before_eviction()
     text = HEAD % (module_text(start), literal(opened(start)))
-    text += written(start) + turned(start) + rebuilt(start) + rebuilt_open(start) + judged(start) + listed(start)
+    text += written(start) + turned(start) + finished(start) + rebuilt(start) + rebuilt_open(start) + judged(start) + listed(start)
     path = os.path.join(TOP, FILE)
     if words:
         with open(path, "w", encoding="utf-8") as f:

@@ -11,7 +11,7 @@ use Rattle.cache.specs.Cache.{emptyCache}
 use Rattle.control.specs.Control.{Cell}
 use Rattle.calls.specs.Call.{Module, Called, accessRefusal}
 use Rattle.calls.specs.Write.{write}
-use Rattle.calls.specs.Turn.{Batch, turnRefusal, turnFront, turnBatches, batchesOf}
+use Rattle.calls.specs.Turn.{Batch, turnRefusal, turnFront, turnBatches, batchesOf, beforeLast}
 use Rattle.calls.specs.Recovery.{rebuilt, rebuildBlocks, rebuildNodes}
 use Rattle.calls.specs.DirtyPages.{dirtyPages}
 use Rattle.calls.proofs.Run.{run}
@@ -191,6 +191,11 @@ last :
     } ∷ []
 unfolding run sparse upTo start
 last = refl
+
+finished :
+    beforeLast (turnBatches (upTo 48 0) 0 start (start .cache) []) ≡ 14
+unfolding run sparse upTo start
+finished = refl
 
 blocks :
     rebuildBlocks 1 (start .control) (start .array) 0 (1 ∷ 0 ∷ 0 ∷ 0 ∷ []) (emptyCache 1) 0
