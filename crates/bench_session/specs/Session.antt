@@ -8,7 +8,7 @@ use lib.ListN.{length, getD, replicate}
 use Rattle.answer.specs.declared.Answer.{Answer}
 use Rattle.answer.specs.declared.Answer.the-variants.{Done, Blank, Cut, Refused}
 use Rattle.calls.specs.Call.{Module, Called, buffers, ended}
-use Rattle.calls.specs.Read.{Reading, read, blankText}
+use Rattle.calls.specs.Read.{Reading, read}
 use Rattle.calls.specs.Write.{write}
 use Rattle.calls.specs.Recovery.{recover}
 use Rattle.commands.specs.declared.Command.{Command}
@@ -32,10 +32,10 @@ readTo r = record { called = r .called; first = getD (r .output) 0 0 }
 abbrev pub nothing : Module → Ran
 nothing m = record { called = record { answer = Done 0 0; after = m }; first = 0 }
 
--- a write has 64 equal bytes as its text; `k` and `?` call nothing
+-- a write has 64 equal bytes as its text, a read is lent 64 zeros; `k` and `?` call nothing
 unfoldable pub ran : List ℕ → Command → ℕ → Module → Ran
 ran keys (Write l b) n m = record { called = write keys l (replicate 64 b) n m; first = 0 }
-ran keys (Read l) n m = readTo (read keys l n blankText m)
+ran keys (Read l) n m = readTo (read keys l n (replicate 64 0) m)
 ran keys Recover n m = record { called = recover keys n m; first = 0 }
 ran keys (Allow k) n m = nothing m
 ran keys Unknown n m = nothing m

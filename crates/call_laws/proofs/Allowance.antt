@@ -8,7 +8,7 @@ use Prim.Native.Nat.{ℕ, zero, suc, _-_, _^_, _≤_, _<_}
 use native.Mathlib.Nat.{le-refl, le-trans, le-of-eq, not-suc-le-zero}
 use native.Mathlib.Omega.{arith}
 use lib.Dec.{eqb}
-use lib.ListN.{length, replicate, take, drop}
+use lib.ListN.{length, take, drop}
 use borrow.Author.Tests.{le-ltb}
 use Rattle.words.proofs.Order.{lt-or-ge}
 use Rattle.answer.specs.declared.Answer.{Answer}
@@ -24,7 +24,7 @@ use Rattle.journal.specs.Journal.{Store, storeAll, pendingStores, batchStores}
 use Rattle.journal.proofs.Laws.{made-all, less-cut, cut-made}
 use Rattle.calls.specs.Path.{Loaded, loaded, differs}
 use Rattle.calls.specs.Call.{Module, Called, mediaOf, withMedia, refuse, storing, accessRefusal, pathOf}
-use Rattle.calls.specs.Read.{answered, refusedRead, lineMinor, sideOk, lineText, readLoaded, readPath, readJudged, read}
+use Rattle.calls.specs.Read.{blankText, answered, refusedRead, lineMinor, sideOk, lineText, readLoaded, readPath, readJudged, read}
 use Rattle.calls.specs.Write.{writeStores, writtenCache, writeLoaded, writePath, writeJudged, write}
 use Rattle.calls.specs.Turn.{turnRefusal, blockOf, turnPlaces, badLine, turnBatches, storesFor, turnedCache, turnChecked}
 use Rattle.calls.specs.Turn.{turnLoaded, turnPath}
@@ -117,7 +117,7 @@ module _ (keys : List ℕ) (line : ℕ) (m : Module) where
     read-found false text xs c = refused-limited m 25 line 0
 
     read-line : (z b : Bool) (text : List ℕ) (xs : List Store) (c : List ℕ)
-        → Limited (λ a. (cond z (answered a m xs (Blank (length xs)) c (replicate 64 0) out)
+        → Limited (λ a. (cond z (answered a m xs (Blank (length xs)) c blankText out)
         (cond b (answered a m xs (Done (length xs) 0) c text out) (refusedRead (refuse m 25 line 0) out))) .called)
     unfolding answered storesOf
     read-line true b text xs c = stored-limited m xs (Blank (length xs)) c refl (blank-not (length xs))

@@ -6,7 +6,7 @@ use Prim.Native.Nat.{ℕ, zero, suc, _+_, _*_, _/_, _%_, _≤_, _<_, zero-le}
 use native.Mathlib.Nat.{le-refl, mul-div-cancel-left}
 use native.Mathlib.Omega.{arith}
 use lib.Dec.{eqb, lit<}
-use lib.ListN.{length, replicate, length-replicate}
+use lib.ListN.{length}
 use borrow.Author.Tests.{lt-ltb}
 use Rattle.words.specs.Bytes.{toLe}
 use Rattle.words.proofs.Digits.{Below, below-digits, length-digits}
@@ -29,14 +29,15 @@ use Rattle.calls.specs.Path.{Loaded, loaded, differs, renewed, renewPath}
 use Rattle.counter.specs.Counter.{major}
 use Rattle.counter.proofs.Laws.{length-withMinor, below-withMinor}
 use Rattle.calls.specs.Call.{Module, Called, mediaOf, withMedia, refuse, storing, pathOf, accessRefusal}
-use Rattle.calls.specs.Read.{Reading, answered, pageBlock, lineMinor, refusedRead}
+use Rattle.calls.specs.Read.{Reading, answered, blankText, pageBlock, lineMinor, refusedRead}
 use Rattle.calls.specs.Read.{sideOk, lineText, readLoaded, readPath, readJudged, read}
+use Rattle.calls.proofs.Blank.{blank-length, blank-bytes}
 use Rattle.calls.specs.Write.{newMinor, newBlock, stopLoss, lineCell, writeBatch, writeStores}
 use Rattle.calls.specs.Write.{writtenCache, writeLoaded, writePath, writeJudged, write}
 use Rattle.call_laws.specs.Line.{blockCells}
 use Rattle.call_laws.proofs.Judged.{Opened, Accepted, access-accepted, head-of}
 use Rattle.call_laws.proofs.Line.{Lent, all-length, all-sound, block-few, text-length, text-bytes}
-use Rattle.call_laws.proofs.Loads.{Sound, Fit, Loads, LoadsIf, path-loads, zeros-bytes}
+use Rattle.call_laws.proofs.Loads.{Sound, Fit, Loads, LoadsIf, path-loads}
 
 -- the buffers of a module hold bytes
 pub record Bytes (m : Module) : Type 0 where
@@ -290,9 +291,9 @@ module _ {keys : List ℕ} {n : ℕ} {buffer : List ℕ} {m : Module} (g : Given
       xs : List Store
       xs = xs-of x
 
-      go : (t u : Bool) → ReadKept m buffer (cond t (answered a m xs (Blank (length xs)) c (replicate 64 0) buffer)
+      go : (t u : Bool) → ReadKept m buffer (cond t (answered a m xs (Blank (length xs)) c blankText buffer)
           (cond u (answered a m xs (Done (length xs) 0) c (lineText keys (m .array) c n) buffer) (refusedRead (refuse m 25 n 0) buffer)))
-      go true u = answered-kept a c x _ (replicate 64 0) l (length-replicate {A = ℕ} 64 0) (zeros-bytes 64)
+      go true u = answered-kept a c x _ blankText l blank-length blank-bytes
       go false true = answered-kept a c x _ (lineText keys (m .array) c n) l
           (text-length h keys (m .array) c n (opening .fits .array) (ok .entry .inside)) (text-bytes h keys (m .array) c n (bytes .array))
       go false false = refused-read m bytes buffer plain 25 n 0

@@ -11,8 +11,7 @@ use lib.Dec.{eqb, lit<}
 use lib.ListN.{length, replicate, length-append}
 use borrow.Author.Tests.{ne-eqb, eqb-true}
 use Rattle.words.specs.Bytes.{toLe}
-use Rattle.words.proofs.Digits.{Below, below-append, below-digits, length-digits}
-use Rattle.words.proofs.Zeros.{below-zeros}
+use Rattle.words.proofs.Digits.{Below, below-replicate, below-append, below-digits, length-digits}
 use Rattle.memory_map.specs.Map.{pages, nodes, slots, cells, arrayLength, cellOf, InMap, onPath}
 use Rattle.slot_map.specs.Slots.{cacheLength, slotOf}
 use Rattle.memory_map.specs.Map.Item.{node, shadow}
@@ -28,7 +27,7 @@ use Rattle.call_laws.specs.Walk.{missing, nodeCells, pathCells, withNode
 use Rattle.call_laws.proofs.Loading.{firstWrong, outcome, load-path}
 
 pub zeros-bytes : (n : ℕ) → Below 256 (replicate n 0)
-zeros-bytes n = record { at = λ i. omega (arith, (below-zeros n) .at i) }
+zeros-bytes n = below-replicate n (lit< tt)
 
 -- 72 bytes for a cell of a module of depth h
 pub record Sound (h : ℕ) (x : Cell) : Type 0 where

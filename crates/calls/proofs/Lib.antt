@@ -1,3 +1,4 @@
+pub mod Blank
 pub mod Examples
 pub mod Run
 pub mod Sparse

@@ -4,7 +4,7 @@ use Rattle.answer.specs.Answer.{codeOf, storesOf, firstOf, secondOf}
 use Rattle.cache.specs.Cache.{owner, dirty, content, withSlot, cellContent, shadowOwner, from, stray, anyOwner, missingTop, orElse, badSlot}
 use Rattle.cache.specs.Cache.{flagsFormed, isNothing, formed, holds, current}
 use Rattle.calls.specs.Call.{judged, accessRefusal, storing}
-use Rattle.calls.specs.Read.{sideOk, lineText, answered, readLoaded, readPath, readJudged}
+use Rattle.calls.specs.Read.{sideOk, lineText, blankText, answered, readLoaded, readPath, readJudged}
 use Rattle.calls.specs.Write.{newBlock, lineCell, writeBatch, writeStores, writtenCache, writeLoaded, writePath, writeJudged}
 use Rattle.calls.specs.Turn.{turnRefusal, turnPlaces, badLine, batchesOf, turnFront, turnBatches, storesFor, turnedCache, turnChecked}
 use Rattle.calls.specs.Turn.{turnLoaded, turnPath, turnJudged, beforeLast, beforeFinished}
@@ -32,17 +32,15 @@ use Rattle.rotation.specs.Rotate.{rotl}
 unfoldable pub run : ℕ
 unfolding codeOf storesOf firstOf secondOf owner dirty content withSlot cellContent shadowOwner from stray anyOwner missingTop orElse
     badSlot flagsFormed isNothing formed holds current judged formatRefusal recoveryRefusal accessRefusal listRefusal storing countsFrom
-    freshNode nodeCells levelCells freshArray formatted format sideOk lineText answered readLoaded readPath readJudged newBlock lineCell
-    writeBatch writeStores writtenCache writeLoaded writePath writeJudged turnRefusal turnPlaces badLine batchesOf turnFront turnBatches
-    storesFor turnedCache turnChecked turnLoaded turnPath turnJudged
-    beforeLast beforeFinished setFrom withBits writtenFrom turnedMinor turned turnStores forwardFrom forwardPage total rebuildBlock
-    rebuildSlot rebuildBlocks
-    rebuildNode rebuildNodes recoverRoot recoverRebuilt recoverShadow recoverJudged isDirty dirtyFrom pageList listJudged codeForC
-    bufferForC
-    leftForC evicted loadNode loadLevels renewed renewPath tagsFrom quarter quarterRound columnRound diagonalRound rounds addStates start
-    serialised block depth root count newRoot queued places queue inMap turnCount turnPage turnMask isOpen otherOpen validHead validTurn
-    valid freshControl major minors counterBlock withMinor
-    forward mayForward store storeAll stages finish batchStores pendingStores pages lines nodes levelStart slots shadowStart shadowCells
-    cells arrayLength cacheLength cellOf InMap slotOf levelOf belongs pad xorBytes initial lastWord messageWords sipRound compress
-    compressAll finalize sipHash nodeInput nodeTag dataInput dataTag number digits wordsOf bytesOf rotl
+    freshNode nodeCells levelCells freshArray formatted format sideOk lineText blankText answered readLoaded readPath readJudged
+    newBlock lineCell writeBatch writeStores writtenCache writeLoaded writePath writeJudged turnRefusal turnPlaces badLine batchesOf
+    turnFront turnBatches storesFor turnedCache turnChecked turnLoaded turnPath turnJudged beforeLast beforeFinished setFrom withBits
+    writtenFrom turnedMinor turned turnStores forwardFrom forwardPage total rebuildBlock rebuildSlot rebuildBlocks rebuildNode
+    rebuildNodes recoverRoot recoverRebuilt recoverShadow recoverJudged isDirty dirtyFrom pageList listJudged codeForC bufferForC
+    leftForC evicted loadNode loadLevels renewed renewPath tagsFrom quarter quarterRound columnRound diagonalRound rounds addStates
+    start serialised block depth root count newRoot queued places queue inMap turnCount turnPage turnMask isOpen otherOpen validHead
+    validTurn valid freshControl major minors counterBlock withMinor forward mayForward store storeAll stages finish batchStores
+    pendingStores pages lines nodes levelStart slots shadowStart shadowCells cells arrayLength cacheLength cellOf InMap slotOf levelOf
+    belongs pad xorBytes initial lastWord messageWords sipRound compress compressAll finalize sipHash nodeInput nodeTag dataInput
+    dataTag number digits wordsOf bytesOf rotl
 run = 0

@@ -40,7 +40,7 @@ unfoldable pub lineText : List ℕ → List ℕ → List ℕ → ℕ → List �
 lineText keys a c line = xorBytes (cellContent a line) (pad keys line (major (pageBlock c line)) (lineMinor c line))
 
 -- what a line never written reads as
-abbrev pub blankText : List ℕ
+unfoldable pub blankText : List ℕ
 blankText = replicate 64 0
 
 -- a call that also writes an output

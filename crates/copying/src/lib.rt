@@ -1,4 +1,4 @@
-// Copying bytes from slice to slice, and zeros.
+// Copying bytes from slice to slice, and filling with equal ones.
 ghost use mathlib.Core.Path.{_≡_};
 ghost use Prim.Native.Nat.{_+_, _*_, _≤_};
 ghost use lib.ListN.{length, replicate};
@@ -65,14 +65,22 @@ pub fn copy(dst: &mut [u8], to: usize, src: &[u8], from: usize, n: usize)
     copy_rest(dst, to + pairs, src, from + pairs, n - pairs);
 }
 
+// Writes a byte n times at an index.
+pub fn fill(s: &mut [u8], at: usize, n: usize, byte: u8)
+    requires { ⌜ at + n ≤ length (now s) ⌝ }
+    ensures { λ _. ⌜ now (s .exit) ≡ put (now (s .entry)) at (replicate n byte) ⌝ }
+{
+    let mut i = 0;
+    while i < n {
+        s[at + i] = byte;
+        i += 1;
+    }
+}
+
 // Writes n zeros at an index.
 pub fn zero(s: &mut [u8], at: usize, n: usize)
     requires { ⌜ at + n ≤ length (now s) ⌝ }
     ensures { λ _. ⌜ now (s .exit) ≡ put (now (s .entry)) at (replicate n 0) ⌝ }
 {
-    let mut i = 0;
-    while i < n {
-        s[at + i] = 0;
-        i += 1;
-    }
+    fill(s, at, n, 0);
 }

@@ -9,7 +9,7 @@ use Prim.Native.Nat.{ℕ, zero, suc, _+_, _-_, _*_, _/_, _^_, _<_}
 use native.Mathlib.Omega.{arith}
 use borrow.Author.Tests.{eq-eqb, lt-ltb, le-ltb}
 use lib.Dec.{ltb}
-use lib.ListN.{length, replicate}
+use lib.ListN.{length}
 use Rattle.words.proofs.Digits.{Below}
 use Rattle.words.proofs.Order.{eq-or-not}
 use Rattle.memory_map.specs.Map.{pages, lines}
@@ -20,7 +20,7 @@ use Rattle.control.specs.Control.{depth}
 use Rattle.journal.specs.Journal.{Store, batchStores}
 use Rattle.journal.proofs.Laws.{length-batch}
 use Rattle.calls.specs.Call.{Module, Called, storing, refuse, accessRefusal}
-use Rattle.calls.specs.Read.{Reading, answered, lineMinor, readJudged, read}
+use Rattle.calls.specs.Read.{Reading, blankText, answered, lineMinor, readJudged, read}
 use Rattle.calls.specs.Write.{writeStores, writtenCache, writeLoaded, writePath, writeJudged, write}
 use Rattle.calls.specs.Turn.{turnRefusal, turnJudged, turn, pagePath, beforeFinished}
 use Rattle.calls.specs.Recovery.{recover}
@@ -109,7 +109,7 @@ module _ (S : Setting) where
       read-text : Access S b o m n → accessRefusal keys n out m ≡ 0 → (x : Option (List ℕ)) → b .text n ≡ x
           → Leads false b (read keys n allowance out m .called)
       read-text w e none z =
-          subst (λ (x : Reading). Leads false b (x .called)) (sym (reads-blank w out e allowance z)) (read-stored w _ (replicate 64 0))
+          subst (λ (x : Reading). Leads false b (x .called)) (sym (reads-blank w out e allowance z)) (read-stored w _ blankText)
       read-text w e (some t) z =
           subst (λ (x : Reading). Leads false b (x .called)) (sym (reads-text w out e allowance t z)) (read-stored w _ t)
 

@@ -7,7 +7,7 @@ use mathlib.Core.Option.{Option, none, some}
 use Prim.Native.Nat.{ℕ, _<_}
 use native.Mathlib.Omega.{arith}
 use borrow.Author.Tests.{eq-eqb, ne-eqb}
-use lib.ListN.{length, replicate}
+use lib.ListN.{length}
 use Rattle.memory_map.proofs.Laws.{page-inside}
 use Rattle.memory_map.specs.Map.{pageOf, lines}
 use Rattle.counter.specs.Counter.{major}
@@ -16,7 +16,7 @@ use Rattle.control.specs.Control.{root, count}
 use Rattle.journal.specs.Journal.{Store, batchStores}
 use Rattle.journal.proofs.Again.{put-cells}
 use Rattle.calls.specs.Call.{Module, mediaOf, refuse, accessRefusal}
-use Rattle.calls.specs.Read.{Reading, sideOk, lineText, pageBlock, lineMinor}
+use Rattle.calls.specs.Read.{Reading, blankText, sideOk, lineText, pageBlock, lineMinor}
 use Rattle.calls.specs.Read.{answered, readLoaded, readPath, readJudged, read, refusedRead}
 use Rattle.calls.specs.History.{Book}
 use Rattle.history_laws.proofs.Setting.{Setting, Tree, treeOf, Opening, isDone}
@@ -73,12 +73,12 @@ module _ {S : Setting} {b : Book} {o : Opening} {m : Module} {n : ℕ} (w : Acce
 
     chosen : Bool → Bool → Reading
     chosen x y =
-        cond x (answered allowance m stores (Blank (length stores)) (walk .cache) (replicate 64 0) out)
+        cond x (answered allowance m stores (Blank (length stores)) (walk .cache) blankText out)
         (cond y (answered allowance m stores (Done (length stores) 0) (walk .cache) (lineText keys (m .array) (walk .cache) n) out)
         (refusedRead (refuse m 25 n 0) out))
 
     pub reads-blank : b .text n ≡ none
-        → read keys n allowance out m ≡ answered allowance m stores (Blank (length stores)) (walk .cache) (replicate 64 0) out
+        → read keys n allowance out m ≡ answered allowance m stores (Blank (length stores)) (walk .cache) blankText out
     unfolding readLoaded chosen RowOk
     reads-blank e =
         let none-yet : b .count n ≡ 0 = subst (λ (x : Option (List ℕ)). RowOk S (treeOf b) n x (m .array)) e row-is in

@@ -5,7 +5,7 @@ use mathlib.Core.List.{List, []}
 use Prim.Native.Nat.{ℕ, zero, suc, _+_, _-_, _^_}
 use native.Mathlib.Omega.{arith}
 use lib.Dec.{eqb}
-use lib.ListN.{length, replicate, take, drop}
+use lib.ListN.{length, take, drop}
 use lib.Seq.{take-nil}
 use Rattle.answer.specs.declared.Answer.{Answer}
 use Rattle.answer.specs.declared.Answer.the-variants.{Done, Blank, Cut, Refused}
@@ -20,7 +20,7 @@ use Rattle.journal.specs.Journal.{Store, Media, storeAll, batchStores, pendingS
 use Rattle.journal.proofs.Laws.{store-none}
 use Rattle.calls.specs.Path.{Loaded, loaded, differs}
 use Rattle.calls.specs.Call.{Module, Called, mediaOf, withMedia, storing, refuse, pathOf, accessRefusal}
-use Rattle.calls.specs.Read.{answered, refusedRead, lineMinor, sideOk, lineText, readLoaded, readPath, readJudged, read}
+use Rattle.calls.specs.Read.{blankText, answered, refusedRead, lineMinor, sideOk, lineText, readLoaded, readPath, readJudged, read}
 use Rattle.calls.specs.Write.{writeStores, writtenCache, writeLoaded, writePath, writeJudged, write}
 use Rattle.calls.specs.Turn.{turnRefusal, blockOf, turnPlaces, badLine, turnBatches, storesFor, turnedCache}
 use Rattle.calls.specs.Turn.{turnChecked, turnLoaded, turnPath, turnJudged, turn, pagePath}
@@ -61,7 +61,7 @@ module _ (m : Module) where
         xs : List Store
         xs = batchStores x (root (m .control))
 
-        go : (s t : Bool) → Same m ((cond s (answered allowance m xs (Blank (length xs)) c (replicate 64 0) out)
+        go : (s t : Bool) → Same m ((cond s (answered allowance m xs (Blank (length xs)) c blankText out)
             (cond t (answered allowance m xs (Done (length xs) 0) c (lineText keys (m .array) c line) out)
             (refusedRead (refuse m 25 line 0) out))) .called)
         go true t = storing-same allowance xs (Blank (length xs)) c (λ n a b e. blank-not e)

@@ -11,6 +11,9 @@ ghost use Rattle.cache.specs.Cache.{cellContent};
 ghost use Rattle.calls.specs.Read.{sideBytes, blankText};
 use answer::Answer;
 
+// Each byte of a line never written.
+const BLANK: u8 = 0;
+
 // Whether a line's data cell has the phase and the tag of a counter.
 pub fn side_ok(keys: &[u8], array: &[u8], line: usize, major: u64, minor: u64) -> bool
     requires { ⌜ (length (now keys) ≡ 48) × (72 * line + 72 ≤ length (now array)) ⌝ }
@@ -38,7 +41,7 @@ pub fn give(
         (xorBytes (cellContent (now (array .entry)) line) (padOf (now (keys .entry)) line major minor)) ⌝ }
 {
     if minor == 0 {
-        copying::zero(out, 0, 64);
+        copying::fill(out, 0, 64, BLANK);
         return Answer::Blank { stores };
     }
     pad::apply(

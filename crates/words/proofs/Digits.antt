@@ -9,7 +9,7 @@ use native.Mathlib.Numerals.{add-one}
 use native.Mathlib.Omega.{arith}
 use lib.Arith.{digits-lt, digits-div, digits-mod, mod-mul}
 use lib.Pow.{pow-add}
-use lib.ListN.{length, take, drop, getD, set}
+use lib.ListN.{length, take, drop, getD, set, replicate}
 use lib.Seq.{drop-cons}
 use Rattle.words.specs.Bytes.{number, digits}
 
@@ -35,6 +35,10 @@ below-cons {b} {d} {ds} h k = record { at = go }
     go : (i : ℕ) → getD (d ∷ ds) i 0 < b
     go zero = h
     go (suc i) = k .at i
+
+pub below-replicate : {b d : ℕ} (n : ℕ) → d < b → Below b (replicate n d)
+below-replicate zero h = below-nil (omega (arith, h))
+below-replicate (suc n) h = below-cons h (below-replicate n h)
 
 pub below-append : {b : ℕ} (xs ys : List ℕ) → Below b xs → Below b ys → Below b (xs ++ ys)
 below-append [] ys h k = k

@@ -6,6 +6,7 @@ use native.Mathlib.Nat.{mul-comm, zero-add, add-zero, add-suc, suc-add}
 use native.Mathlib.Numerals.{towards-suc, add-one, add-two, add-three}
 use native.Mathlib.Omega.{arith}
 use lib.ListN.{length, take, drop, getD, set, length-take, length-drop, length-append, take-append-drop, drop-of-length-le}
+use lib.ListN.{replicate, length-replicate, replicate-append-replicate}
 use lib.Dec.{lit<}
 use lib.Seq.{drop-cons, take-nil, take-add, take-take, drop-drop, sets, sets-eq, length-sets, length-take-le, take-all, take-at, drop-at}
 use lib.Seq.{take-append-le, drop-append-le, drop-append-add}
@@ -185,6 +186,14 @@ copy-next d to s from n hd hs =
     sym (put-one (put d to (part s from n)) (to + n) (getD s (from + n) 0) (rw (length-put d to (part s from n) fits) hd))
     ∙ ap (put (put d to (part s from n)) (to + n)) (sym (part-suc s (from + n) 0 hs))
     ∙ copy-more d to s from n 1 (omega arith) (omega arith)
+
+-- one byte more of a run of equal ones
+pub fill-next : (s : List ℕ) (at n b : ℕ) → at + n < length s → set (put s at (replicate n b)) (at + n) b ≡ put s at (replicate (n + 1) b)
+fill-next s at n b h =
+    let l = length-replicate {A = ℕ} n b in
+    sym (put-one (put s at (replicate n b)) (at + n) b (rw (length-put s at (replicate n b) (rw l (omega arith))) h))
+    ∙ ap (λ (k : ℕ). put (put s at (replicate n b)) (at + k) (replicate 1 b)) (sym l)
+    ∙ put-append s at (replicate n b) (replicate 1 b) (rw l (omega arith)) ∙ ap (put s at) (replicate-append-replicate n 1 b)
 
 -- a word read and written
 pub word-part : (s : List ℕ) (at n : ℕ) → at + n ≤ length s → Below 256 s → toLe n (fromLe (part s at n)) ≡ part s at n

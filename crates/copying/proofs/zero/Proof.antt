@@ -1,68 +1,16 @@
 -- `copying::zero` meets its contract. Assumes nothing.
-use mathlib.Core.Path.{_≡_, refl, sym, ap, _∙_}
-use mathlib.Core.List.{List}
-use Prim.Native.Nat.{ℕ, _+_, _-_, _≤_, zero-le}
-use native.Mathlib.Omega.{arith}
-use lib.ListN.{length, set, replicate, length-set}
-use Rattle.words.specs.Bytes.{put}
-use Rattle.words.proofs.Parts.{put-nil}
-use Rattle.words.proofs.Zeros.{zero-next}
+use borrow.Author.Needs.{needs}
 use Rattle.copying.proofs.zero.Statement.{statement}
 use Rattle.copying.proofs.zero.Tie as tie
 
-abbrev Inv-loop : tie.InvT-loop
-Inv-loop s₀ at n i₀ s i = (i ≤ n) × ((s ≡ put s₀ at (replicate i 0)) × (length s ≡ length s₀))
+fill-requires : tie.Need-fill-requires
+fill-requires c κs = search needs
 
-abbrev μ-loop : tie.MeasureT-loop
-μ-loop s₀ at n i₀ s i = n - i
+same-length : tie.Need-same-length
+same-length c = search needs
 
-loop-holds : tie.Need-loop-holds Inv-loop μ-loop
-loop-holds c = (zero-le, (sym (put-nil (c .args .s .now) (c .args .at) (omega arith)), refl))
-
-add-s : tie.Need-add-s Inv-loop μ-loop
-add-s c = omega arith
-
-slice-write-s : tie.Need-slice-write-s Inv-loop μ-loop
-slice-write-s c = omega arith
-
-add-i : tie.Need-add-i Inv-loop μ-loop
-add-i c = omega arith
-
-loop-less : tie.Need-loop-less Inv-loop μ-loop
-loop-less c = omega arith
-
-loop-again : tie.Need-loop-again Inv-loop μ-loop
-loop-again c =
-    let at = c .before in
-    let start = at .before .args in (
-      omega arith,
-      (
-        ap (λ (l : List ℕ). set l (start .at + at .loop .i) 0) (at .loop .inv .1 .0)
-            ∙ zero-next (start .s .now) (start .at) (at .loop .i) (omega arith),
-        simp length-set (at .loop .inv .1 .1),
-      ),
-    )
-
-same-length : tie.Need-same-length Inv-loop μ-loop
-same-length c = c .before .loop .inv .1 .1
-
-returns : tie.Need-returns Inv-loop μ-loop
-returns c =
-    let start = c .before .before .args in
-    let all : c .before .loop .i ≡ start .n = omega arith in
-    c .before .loop .inv .1 .0 ∙ ap (λ (k : ℕ). put (start .s .now) (start .at) (replicate k 0)) all
+returns : tie.Need-returns
+returns c = c .before .before .fill .ensures
 
 pub zero-spec : {M : Type 1} → statement M
-zero-spec =
-    tie.close
-    (tie.spec
-    Inv-loop
-    μ-loop
-    loop-holds
-    add-s
-    slice-write-s
-    add-i
-    loop-less
-    loop-again
-    same-length
-    returns)
+zero-spec = tie.close (tie.spec fill-requires same-length returns)

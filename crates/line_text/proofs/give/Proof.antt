@@ -5,23 +5,25 @@ use mathlib.Core.List.{List}
 use Prim.Native.Nat.{ℕ}
 use borrow.Author.Needs.{needs}
 use borrow.Author.Tests.{eq-eqb, ne-eqb}
-use lib.ListN.{length, replicate}
+use lib.ListN.{length}
 use Rattle.words.proofs.Parts.{put-all}
 use Rattle.pad.specs.Pad.{pad, xorBytes}
 use Rattle.answer.specs.declared.Answer.the-variants.{Done, Blank}
 use Rattle.cache.specs.Cache.{cellContent}
 use Rattle.calls.specs.Read.{blankText}
+use Rattle.calls.proofs.Blank.{blank-length}
 use Rattle.line_text.proofs.Laws.{cell-size}
 use Rattle.line_text.proofs.give.Statement.{statement}
 use Rattle.line_text.proofs.give.Tie as tie
 
-zero-requires : tie.Need-zero-requires
-zero-requires c κs = search needs
+fill-requires : tie.Need-fill-requires
+fill-requires c κs = search needs
 
 same-length : tie.Need-same-length
 same-length c = search needs
 
 returns : tie.Need-returns
+unfolding blankText
 returns c =
     let stored = c .before .before in
     let test = stored .before .before in
@@ -29,7 +31,7 @@ returns c =
     let a = start .args in
     let t = eq-eqb (a .minor) 0 (test .if1 .taken) in (
       ap (λ (b : Bool). cond b (Blank (a .stores)) (Done (a .stores) 0)) (sym t),
-      stored .zero .ensures ∙ put-all (a .out .now) (replicate 64 0) (sym (start .pre .1 .1 .1 .1))
+      stored .fill .ensures ∙ put-all (a .out .now) blankText (blank-length ∙ sym (start .pre .1 .1 .1 .1))
           ∙ ap (λ (b : Bool). cond b blankText
           (xorBytes (cellContent (a .array .now) (a .line)) (pad (a .keys .now) (a .line) (a .major) (a .minor)))) (sym t),
     )
@@ -75,7 +77,7 @@ pub give-spec : {M : Type 1} → statement M
 give-spec =
     tie.close
     (tie.spec
-    zero-requires
+    fill-requires
     same-length
     returns
     cast-apply
