@@ -454,7 +454,7 @@ uint32_t NAME(read)(const uint8_t *keys, size_t keys_len, uint8_t *control, size
     if (minor)
         cipher(&m, line, p.content[0], minor, cell, out);
     else
-        memset(out, 0, CONTENT);
+        memset(out, NV_BLANK_BYTE, CONTENT);
     return answer(numbers, minor ? NV_DONE : NV_BLANK, stores, 0, 0);
 }
 

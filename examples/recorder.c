@@ -336,8 +336,10 @@ static unsigned wrong_rows(void)
         stop("the witness's recovery", code, &copy);
     for (unsigned row = 0; row < ROWS; row++) {
         int written = text_of(row, latest[row], wanted) != NULL;
+        if (!written)
+            memset(wanted, NV_BLANK_BYTE, sizeof wanted);
         code = call_read(&copy, row, out, UINT64_MAX);
-        if (code != (written ? NV_DONE : NV_BLANK) || (written && memcmp(out, wanted, sizeof out) != 0)) {
+        if (code != (written ? NV_DONE : NV_BLANK) || memcmp(out, wanted, sizeof out) != 0) {
             fprintf(stderr, "recorder: row %u has not its text %u (code %" PRIu32 ")\n", row, latest[row], code);
             wrong++;
         }

@@ -44,9 +44,14 @@ enum {
 // What a call returns: one of these codes, or NV_REFUSED plus the number of the refusal.
 enum {
     NV_DONE = 0,     // the call has done what it says
-    NV_BLANK = 1,    // a read of a line that was never written; the output is zero
+    NV_BLANK = 1,    // a read of a line that was never written; each byte of the output is NV_BLANK_BYTE
     NV_CUT = 2,      // the allowance was smaller than the stores needed; it was used up, cache and output stay
     NV_REFUSED = 100 // nothing was done, but that 27 to 29 come after the pending stores of a recovery
+};
+
+// The mark of a line that was never written. A text may have these bytes too: the code tells the two apart.
+enum {
+    NV_BLANK_BYTE = 255 // each of the NV_TEXT_LENGTH bytes that a blank read gives
 };
 
 // Numbers of refusals.

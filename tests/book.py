@@ -3,7 +3,7 @@
 import model
 from library import BLANK, DONE, REFUSED
 
-UNWRITTEN = bytes(64)
+UNWRITTEN = bytes([255] * 64)
 
 
 class Book:

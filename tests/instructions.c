@@ -179,7 +179,11 @@ static void keep_book(const book *b, const module *from)
         b->count[line] = (uint8_t)minor_of(&trial, line);
     for (uint64_t line = 0; line < trial.lines; line++) {
         need(call_read(&trial, line, UNLIMITED) == (b->count[line] ? NV_DONE : NV_BLANK));
-        memcpy(b->text + NV_TEXT_LENGTH * line, trial.out, NV_TEXT_LENGTH);
+        uint8_t *text = b->text + NV_TEXT_LENGTH * line;
+        if (b->count[line])
+            memcpy(text, trial.out, NV_TEXT_LENGTH);
+        else
+            memset(text, NV_BLANK_BYTE, NV_TEXT_LENGTH);
     }
 }
 

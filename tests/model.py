@@ -28,6 +28,7 @@ KEYS_LENGTH = 48
 SLOT_LENGTH = 73
 COUNTER_SLOTS = 4
 LIST_LENGTH = 32
+BLANK_TEXT = b"\xff" * CONTENT
 
 # The control record.
 CONTROL_LENGTH = 681
@@ -546,7 +547,7 @@ def read_call(keys, line, allowance, output, module):
         return refusal, module, output
     block = found[slot_of(0, page)].content
     major, minor = major_of(block), minors_of(block)[place]
-    text = bytes(CONTENT)
+    text = BLANK_TEXT
     if minor != 0:
         text = text_at(keys, module.array, line, major, minor)
         if text is None:
@@ -1061,7 +1062,7 @@ class History:
             return
         written = line in self.texts
         kind = "done" if written else "blank"
-        text = self.texts.get(line, bytes(CONTENT))
+        text = self.texts.get(line, BLANK_TEXT)
         before = b"\xa5" * CONTENT
         answer, _, output = read_call(self.keys, line, UNLIMITED, before,
                                       self.module)

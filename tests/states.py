@@ -26,7 +26,7 @@ r 0 done 0 20
 w 0 cut 1
 p done 0 0
 r 0 done 0 20
-r 64 blank 5 0""".split("\n")
+r 64 blank 5 255""".split("\n")
 
 
 @lru_cache(maxsize=None)

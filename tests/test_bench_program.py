@@ -23,7 +23,7 @@ r 0 done 0 20
 w 0 cut 1
 p done 0 0
 r 0 done 0 20
-r 64 blank 5 0
+r 64 blank 5 255
 """
 
 results = {"passed": 0, "failed": 0}
@@ -70,10 +70,10 @@ def test_ends():
     same("empty input", b"", b"")
     same("one empty line", b"\n", b"?\n")
     same("empty lines", b"\n\np\n\n", b"?\n?\np done 0 0\n?\n")
-    same("no last newline", b"r 0", b"r 0 blank 7 0\n")
+    same("no last newline", b"r 0", b"r 0 blank 7 255\n")
     same("no last newline after lines", b"w 1 2\nr 1", b"w 1 done 9\nr 1 done 0 2\n")
     same("a last line of one byte", b"x", b"?\n")
-    same("a last line with `k` alone", b"r 0\nk 1", b"r 0 blank 7 0\n")
+    same("a last line with `k` alone", b"r 0\nk 1", b"r 0 blank 7 255\n")
 
 
 UNKNOWN = [
@@ -96,7 +96,7 @@ def test_numbers():
     most = b"18446744073709551615"
     same("largest line", b"r " + most, b"r " + most + b" refused 6\n")
     same("largest line written", b"w " + most + b" 255", b"w " + most + b" refused 6\n")
-    same("first line past the module", b"r 511\nr 512\nw 512 0\n", b"r 511 blank 7 0\nr 512 refused 6\nw 512 refused 6\n")
+    same("first line past the module", b"r 511\nr 512\nw 512 0\n", b"r 511 blank 7 255\nr 512 refused 6\nw 512 refused 6\n")
     same("largest allowance", b"k " + most + b"\nw 0 1\n", b"w 0 done 9\n")
     for zeros in (1, 2, 19, 20, 21, 100, 4094, 4095, 4096, 4097, 100000):
         pad = b"0" * zeros
@@ -109,7 +109,7 @@ def test_numbers():
 
 def test_allowance():
     same("`k` before `?`", b"k 0\n?\nw 0 1\nw 0 1\n", b"?\nw 0 cut 0\nw 0 done 9\n")
-    same("`k` before a refused call", b"k 0\nr 512\nr 0\n", b"r 512 refused 6\nr 0 blank 7 0\n")
+    same("`k` before a refused call", b"k 0\nr 512\nr 0\n", b"r 512 refused 6\nr 0 blank 7 255\n")
     same("`k` twice", b"k 0\nk 100\nw 0 1\n", b"w 0 done 9\n")
     same("`k` and a call that needs less", b"w 0 1\nk 0\nr 0\nk 4\nw 0 2\n", b"w 0 done 9\nr 0 done 0 1\nw 0 cut 4\n")
     same("`k` 0 before an idle recovery", b"k 0\np\nw 0 1\n", b"p done 0 0\nw 0 done 9\n")
@@ -126,10 +126,10 @@ def test_refusals():
 
 
 def test_long():
-    same("a long line", b"x" * 1000000 + b"\nr 0\n", b"?\nr 0 blank 7 0\n")
-    same("a long line that starts as a command", b"r 0" + b" " * 1000000 + b"\nr 0\n", b"?\nr 0 blank 7 0\n")
-    same("a long number", b"r " + b"1" * 1000000 + b"\nr 0\n", b"?\nr 0 blank 7 0\n")
-    same("a long last line", b"r 0\n" + b"0" * 1000000, b"r 0 blank 7 0\n?\n")
+    same("a long line", b"x" * 1000000 + b"\nr 0\n", b"?\nr 0 blank 7 255\n")
+    same("a long line that starts as a command", b"r 0" + b" " * 1000000 + b"\nr 0\n", b"?\nr 0 blank 7 255\n")
+    same("a long number", b"r " + b"1" * 1000000 + b"\nr 0\n", b"?\nr 0 blank 7 255\n")
+    same("a long last line", b"r 0\n" + b"0" * 1000000, b"r 0 blank 7 255\n?\n")
     same("many lines", b"r 0\n" * 50000)
     for before in range(4080, 4100):
         same("a line across two reads", b"?" * before + b"\nw 511 200\nr 511\n", b"?\nw 511 done 9\nr 511 done 0 200\n")

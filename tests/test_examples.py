@@ -63,16 +63,17 @@ def before_eviction():
     return module
 
 
-def theorem(name, statement, opened):
-    return "\n%s :\n    %s\nunfolding run sparse upTo%s\n%s = refl\n" % (name, statement, opened, name)
+def theorem(name, left, right, opened):
+    return "\n%s :\n    %s\n    ≡ %s\nunfolding run sparse upTo %s\n%s = refl\n" % (name, left, right, opened, name)
 
 
 def written(start):
     """A write with an eviction and a stop-loss store."""
     answer, after = model.write_call(KEYS, 256, bytes([5]) * 64, 19, start)
     assert answer == model.Answer("done", 0, 11, 0, 0)
-    return theorem("written", "seen 256 (write (upTo 48 0) 256 (replicate 64 5) 19 start)\n    ≡ record { answer = Done 11 0; cache = %s; cell = %s }" % (
-        literal(after.cache), literal(after.array[72 * 256:72 * 257])), " seen start")
+    return theorem("written", "seen 256 (write (upTo 48 0) 256 (replicate 64 5) 19 start)",
+                   "record { answer = Done 11 0; cache = %s; cell = %s }" % (
+                       literal(after.cache), literal(after.array[72 * 256:72 * 257])), "seen start")
 
 
 def rebuilt(start):
@@ -81,10 +82,27 @@ def rebuilt(start):
     assert answer == model.Answer("done", 0, 0, 3, 0)
     owners = [slot.owner for slot in model.slots_of_cache(module.cache)]
     blocks = literal(module.cache[:4 * 73] + bytes(len(module.cache) - 4 * 73))
-    return theorem("blocks", "rebuildBlocks 1 (start .control) (start .array) 0 (%s) (emptyCache 1) 0\n    ≡ rebuilt (%s) 3" % (
-        octets(owners[:4]), blocks), " start") + theorem(
-        "nodes", "rebuildNodes 1 (upTo 48 0) (start .array) 4 (%s)\n    (%s)\n    ≡ %s" % (
-            octets(owners[4:]), blocks, literal(module.cache)), " start")
+    return theorem("blocks", "rebuildBlocks 1 (start .control) (start .array) 0 (%s) (emptyCache 1) 0" % octets(owners[:4]),
+                   "rebuilt (%s) 3" % blocks, "start") + theorem(
+        "nodes", "rebuildNodes 1 (upTo 48 0) (start .array) 4 (%s)\n    (%s)" % (octets(owners[4:]), blocks),
+        literal(module.cache), "start")
+
+
+def reads(start):
+    """What a read answers and leaves in its output: of a blank line, cut, refused before the path and after it."""
+    lent, damaged = bytes([7]) * 64, start._replace(array=bytes([9]) + start.array[1:])
+    found = ""
+    for name, line, module, term, wanted, told in (
+            ("blank", 3, start, "start", model.Answer("blank", 0, 0, 0, 0), "Blank 0"),
+            ("cut", 64, start, "start", model.Answer("cut", 0, 4, 0, 0), "Cut 4"),
+            ("past", 512, start, "start", model.Answer("refused", 6, 0, 0, 0), "Refused 6 0 0 0"),
+            ("damaged", 0, damaged, "\n    (record { array = set (start .array) 0 9; control = start .control; cache = start .cache })",
+             model.Answer("refused", 25, 0, 0, 0), "Refused 25 0 0 0")):
+        answer, _, output = model.read_call(KEYS, line, 4, lent, module)
+        assert answer == wanted and output == output[:1] * 64
+        found += theorem("read-" + name, "given (read (upTo 48 0) %d 4 (replicate 64 7) %s)" % (line, term),
+                         "(%s, replicate 64 %d)" % (told, output[0]), "given start")
+    return found
 
 
 def batches(stores):
@@ -114,7 +132,8 @@ def turned(start):
         return batches(stores)
 
     def shapes(found):
-        return " ∷ ".join("(%s, %s)" % (octets([number for number, _ in cells]), octets(section)) for cells, _, section in found) + " ∷ []"
+        pairs = ["(%s, %s)" % (octets([number for number, _ in cells]), octets(section)) for cells, _, section in found]
+        return "\n    ∷ ".join(pairs + ["[]"])
 
     def cell_text(cell):
         return "record { number = %d; bytes = %s }" % (cell[0], literal(cell[1]))
@@ -123,17 +142,19 @@ def turned(start):
     cells, root, section = whole[-1]
     last = "record { cells = %s ∷ []; root = %d; section = %s } ∷ []" % (
         " ∷ ".join(cell_text(cell) for cell in cells), root, octets(section))
-    return theorem("front", "turnFront 1 (start .control) (start .cache) 0 []\n    ≡ %s ∷ []" % cell_text(whole[0][0][0]), " start") + theorem("turned", "shapes (turnBatches (upTo 48 0) 0 start (start .cache) [])\n    ≡ %s" % shapes(whole), " shapes start") + theorem(
-        "resumed", "shapes (turnBatches (upTo 48 0) 0 (record { array = start .array; control = openControl; cache = start .cache }) (start .cache) [])"
-        "\n    ≡ %s" % shapes(resumed), " shapes start openControl") + theorem(
-        "last", "batchesOf 1 (upTo 48 0) (start .array) (start .cache) 0 0 [] (2 ∷ [])\n    ≡ %s" % last, " start")
+    resuming = "(record { array = start .array; control = openControl; cache = start .cache })"
+    return (theorem("front", "turnFront 1 (start .control) (start .cache) 0 []", "%s ∷ []" % cell_text(whole[0][0][0]), "start")
+            + theorem("turned", "shapes (turnBatches (upTo 48 0) 0 start (start .cache) [])", shapes(whole), "shapes start")
+            + theorem("resumed", "shapes (turnBatches (upTo 48 0) 0\n    %s (start .cache) [])" % resuming, shapes(resumed),
+                      "shapes start openControl")
+            + theorem("last", "batchesOf 1 (upTo 48 0) (start .array) (start .cache) 0 0 [] (2 ∷ [])", last, "start"))
 
 
 def finished(start):
     """How many stores of a turn of page 0 come before the commit of its last batch."""
     _, stores, _ = model.turn_stores(KEYS, 0, start)
     before = max(k for k, store in enumerate(stores) if len(store.pieces) == 2)
-    return theorem("finished", "beforeLast (turnBatches (upTo 48 0) 0 start (start .cache) []) ≡ %d" % before, " start")
+    return theorem("finished", "beforeLast (turnBatches (upTo 48 0) 0 start (start .cache) [])", before, "start")
 
 
 def rebuilt_open(start):
@@ -142,8 +163,8 @@ def rebuilt_open(start):
     assert answer.number == 29
     block = model.array_node(1, start.array, 0, 0)
     slot = model.number8(1) + bytes([1]) + block
-    return theorem("open-blocks", "rebuildBlocks 1 openControl (start .array) 0 (1 ∷ 0 ∷ 0 ∷ 0 ∷ []) (emptyCache 1) 0\n    ≡ rebuilt (%s) 0" % (
-        literal(slot + bytes(len(start.cache) - 73))), " start openControl")
+    return theorem("open-blocks", "rebuildBlocks 1 openControl (start .array) 0 (1 ∷ 0 ∷ 0 ∷ 0 ∷ []) (emptyCache 1) 0",
+                   "rebuilt (%s) 0" % literal(slot + bytes(len(start.cache) - 73)), "start openControl")
 
 
 def judged(start):
@@ -153,8 +174,8 @@ def judged(start):
     assert model.turn_call(KEYS, 1, 0, module)[0].number == 23
     assert model.turn_call(KEYS, 1, 0, start._replace(control=opened(start)))[0].number == 30
     torn = "(record { array = start .array; control = openControl; cache = set (start .cache) 0 9 })"
-    return "".join(theorem(name, "%s ≡ %d" % (call, number), " start openControl") for name, call, number in (
-        ("read-judged", "accessRefusal (upTo 48 0) 0 (replicate 64 0) %s" % torn, 23),
+    return "".join(theorem(name, call, number, "start openControl") for name, call, number in (
+        ("read-judged", "accessRefusal (upTo 48 0) 0 (replicate 64 0)\n    %s" % torn, 23),
         ("turn-judged", "turnRefusal (upTo 48 0) 1 %s" % torn, 23),
         ("other-judged", "turnRefusal (upTo 48 0) 1 (record { array = start .array; control = openControl; cache = start .cache })", 30)))
 
@@ -165,22 +186,24 @@ def listed(start):
     cache = b"".join(owner.to_bytes(8, "little") + bytes([dirty]) + bytes(64) for owner, dirty in slots)
     answer, output = model.dirty_list_call(bytes(32), start.control, cache)
     assert answer == model.Answer("done", 0, 0, 0, 0)
-    return theorem("listed", "dirtyPages (start .control) (%s) (replicate 32 0)\n    ≡ record { answer = Done 0 0; output = %s }" % (
-        literal(cache), octets(output)), " start")
+    return theorem("listed", "dirtyPages (start .control) (%s) (replicate 32 0)" % literal(cache),
+                   "record { answer = Done 0 0; output = %s }" % octets(output), "start")
 
 
-HEAD = """-- Written by tests/test_examples.py: a write with an eviction and a stop-loss store, the batches of a turn and of a resumed one, what
--- a recovery rebuilds, where a page is open too, refusals in sequence, and a list of dirty pages. Assumes nothing.
+HEAD = """\
+-- Written by tests/test_examples.py: a write with an eviction and a stop-loss store, outputs of reads, the batches of a turn and of a
+-- resumed one, what a recovery rebuilds, where a page is open too, refusals in sequence, and a list of dirty pages. Assumes nothing.
 use mathlib.Core.Path.{_≡_, refl}
 use mathlib.Core.List.{List, [], _∷_, map}
 use Prim.Native.Nat.{ℕ, _*_}
 use lib.ListN.{replicate, set}
 use Rattle.words.specs.Bytes.{part}
 use Rattle.answer.specs.declared.Answer.{Answer}
-use Rattle.answer.specs.declared.Answer.the-variants.{Done}
+use Rattle.answer.specs.declared.Answer.the-variants.{Done, Blank, Cut, Refused}
 use Rattle.cache.specs.Cache.{emptyCache}
 use Rattle.control.specs.Control.{Cell}
 use Rattle.calls.specs.Call.{Module, Called, accessRefusal}
+use Rattle.calls.specs.Read.{Reading, read}
 use Rattle.calls.specs.Write.{write}
 use Rattle.calls.specs.Turn.{Batch, turnRefusal, turnFront, turnBatches, batchesOf, beforeLast}
 use Rattle.calls.specs.Recovery.{rebuilt, rebuildBlocks, rebuildNodes}
@@ -196,6 +219,10 @@ record Seen : Type 0 where
 
 seen : ℕ → Called → Seen
 seen n c = record { answer = c .answer; cache = c .after .cache; cell = part (c .after .array) (72 * n) 72 }
+
+-- what a read answers, and what it leaves in its output
+given : Reading → Answer × List ℕ
+given r = (r .called .answer, r .output)
 
 -- the cell numbers of each batch, and its section
 shapes : List Batch → List (List ℕ × List ℕ)
@@ -222,7 +249,8 @@ def main(words):
         return 2
     start = before_eviction()
     text = HEAD % (module_text(start), literal(opened(start)))
-    text += written(start) + turned(start) + finished(start) + rebuilt(start) + rebuilt_open(start) + judged(start) + listed(start)
+    for runs_of in written, reads, turned, finished, rebuilt, rebuilt_open, judged, listed:
+        text += runs_of(start)
     path = os.path.join(TOP, FILE)
     if words:
         with open(path, "w", encoding="utf-8") as f:

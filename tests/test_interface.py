@@ -101,8 +101,8 @@ def signatures(tally, text):
 def constants(tally, text):
     values = {name: int(value) for name, value in re.findall(r"\b(NV_\w+) = (\d+)", text)}
     wanted = {"NV_KEYS_LENGTH": 48, "NV_CONTROL_LENGTH": 681, "NV_TEXT_LENGTH": 64, "NV_LIST_LENGTH": 32,
-              "NV_NUMBERS_LENGTH": 24, "NV_DONE": 0, "NV_BLANK": 1, "NV_CUT": 2, "NV_REFUSED": 100, "NV_TURN_AT": 664,
-              "NV_TURN_PAGE_AT": 665}
+              "NV_NUMBERS_LENGTH": 24, "NV_DONE": 0, "NV_BLANK": 1, "NV_CUT": 2, "NV_REFUSED": 100, "NV_BLANK_BYTE": 255,
+              "NV_TURN_AT": 664, "NV_TURN_PAGE_AT": 665}
     for depth in DEPTHS:
         wanted["NV_ARRAY_LENGTH_%d" % depth] = model.array_length(depth)
         wanted["NV_CACHE_LENGTH_%d" % depth] = model.cache_length(depth)

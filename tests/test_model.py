@@ -118,8 +118,8 @@ def test_bench():
           bench(["r 512", "w 18446744073709551615 0", "k 2", "w 0 1",
                  "r 0", "p", "k 0", "?", "r 0", "k 0", "k 9", "w 64 255"]),
           ["r 512 refused 6", "w 18446744073709551615 refused 6",
-           "w 0 cut 2", "r 0 blank 7 0", "p done 0 0", "?",
-           "r 0 blank 0 0", "w 64 done 7"])
+           "w 0 cut 2", "r 0 blank 7 255", "p done 0 0", "?",
+           "r 0 blank 0 255", "w 64 done 7"])
     equal("bench while pending",
           bench(["k 4", "w 0 1", "r 0", "w 0 2", "k 3", "p", "p", "r 0"]),
           ["w 0 cut 4", "r 0 refused 22", "w 0 refused 22", "p cut 3",
@@ -130,8 +130,8 @@ def test_bench():
            "r 0 done 0 1"])
     equal("bench holds an allowance once",
           bench(["k 0", "r 600", "r 0", "k 00", "p", "r 007"]),
-          ["r 600 refused 6", "r 0 blank 7 0", "p done 0 0",
-           "r 7 blank 0 0"])
+          ["r 600 refused 6", "r 0 blank 7 255", "p done 0 0",
+           "r 7 blank 0 255"])
 
 
 # ---- Single calls ----
@@ -247,7 +247,7 @@ def test_bytes_of_a_turn():
               (Answer("done", 0, 0, 0, 0), text))
     equal("unwritten line after a turn",
           read_call(KEYS, 131, 0, OUTPUT, after)[::2],
-          (Answer("blank", 0, 0, 0, 0), bytes(64)))
+          (Answer("blank", 0, 0, 0, 0), b"\xff" * 64))
 
 
 def test_turn_batches():
@@ -948,7 +948,7 @@ def check_step(history, before, event, answer, output):
                     "stores of a cut")
     if kind == "read":
         line = event[2]
-        wanted = {"done": history.texts.get(line), "blank": bytes(64)}
+        wanted = {"done": history.texts.get(line), "blank": b"\xff" * 64}
         model.claim(output == wanted.get(answer.kind, event[4]),
                     "output of a read")
         if answer.kind == "blank":

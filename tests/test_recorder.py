@@ -13,9 +13,9 @@ TOP = os.path.join(os.path.dirname(os.path.abspath(__file__)), "..")
 FLAGS = ("-std=c99", "-O2", "-Wall", "-Wextra", "-Wpedantic", "-Werror")
 SEEDS = range(1, 41)
 
-# Each takes the place of the call that it is named for.
-LIARS = {
-    "nv_write": ("a write that is told as done and was not made", """
+# Each takes the place of the call that it names first.
+LIARS = (
+    ("nv_write", "a write that is told as done and was not made", """
     static int calls;
     if (++calls == 200) {
         for (size_t i = 0; i < numbers_len; i++)
@@ -24,7 +24,7 @@ LIARS = {
     }
     return nv_write(keys, keys_len, control, control_len, array, array_len, cache, cache_len, line, text, text_len,
                     allowance, numbers, numbers_len);"""),
-    "nv_read": ("a read that gives an older text", """
+    ("nv_read", "a read that gives an older text", """
     static uint8_t older[NV_LINES_1][NV_TEXT_LENGTH], known[NV_LINES_1];
     uint32_t code = nv_read(keys, keys_len, control, control_len, array, array_len, cache, cache_len, line, out, out_len,
                             allowance, numbers, numbers_len);
@@ -33,12 +33,18 @@ LIARS = {
     if (code == NV_DONE && known[line] == 0)
         memcpy(older[line], out, NV_TEXT_LENGTH), known[line] = 1;
     return code;"""),
-    "nv_turn": ("a turn that is told as done and was not made", """
+    ("nv_read", "a blank read with a zero at its end", """
+    uint32_t code = nv_read(keys, keys_len, control, control_len, array, array_len, cache, cache_len, line, out, out_len,
+                            allowance, numbers, numbers_len);
+    if (code == NV_BLANK)
+        out[NV_TEXT_LENGTH - 1] = 0;
+    return code;"""),
+    ("nv_turn", "a turn that is told as done and was not made", """
     (void)keys, (void)keys_len, (void)control, (void)control_len, (void)array, (void)array_len;
     (void)cache, (void)cache_len, (void)page, (void)allowance;
     memset(numbers, 0, numbers_len);
     return NV_DONE;"""),
-    "nv_recover": ("a recovery that brings an older state back", """
+    ("nv_recover", "a recovery that brings an older state back", """
     static uint8_t controls[NV_CONTROL_LENGTH], arrays[NV_ARRAY_LENGTH_1];
     static int calls;
     if (++calls == 100)
@@ -47,7 +53,7 @@ LIARS = {
         memcpy(control, controls, control_len), memcpy(array, arrays, array_len);
     return nv_recover(keys, keys_len, control, control_len, array, array_len, cache, cache_len, allowance, numbers,
                       numbers_len);"""),
-}
+)
 
 
 def build(archive, work, name, *more):
@@ -79,7 +85,7 @@ def seeds(tally, program, file):
 def liars(tally, archive, work, file):
     with open(os.path.join(TOP, "include", "nightvelvet.h")) as header:
         text = header.read()
-    for call, (what, body) in LIARS.items():
+    for call, what, body in LIARS:
         prototype = re.search(r"uint32_t %s\([^)]*\);" % call, text).group(0)
         source = os.path.join(work, call + ".c")
         with open(source, "w") as out:

@@ -1,15 +1,16 @@
--- Written by tests/test_examples.py: a write with an eviction and a stop-loss store, the batches of a turn and of a resumed one, what
--- a recovery rebuilds, where a page is open too, refusals in sequence, and a list of dirty pages. Assumes nothing.
+-- Written by tests/test_examples.py: a write with an eviction and a stop-loss store, outputs of reads, the batches of a turn and of a
+-- resumed one, what a recovery rebuilds, where a page is open too, refusals in sequence, and a list of dirty pages. Assumes nothing.
 use mathlib.Core.Path.{_≡_, refl}
 use mathlib.Core.List.{List, [], _∷_, map}
 use Prim.Native.Nat.{ℕ, _*_}
 use lib.ListN.{replicate, set}
 use Rattle.words.specs.Bytes.{part}
 use Rattle.answer.specs.declared.Answer.{Answer}
-use Rattle.answer.specs.declared.Answer.the-variants.{Done}
+use Rattle.answer.specs.declared.Answer.the-variants.{Done, Blank, Cut, Refused}
 use Rattle.cache.specs.Cache.{emptyCache}
 use Rattle.control.specs.Control.{Cell}
 use Rattle.calls.specs.Call.{Module, Called, accessRefusal}
+use Rattle.calls.specs.Read.{Reading, read}
 use Rattle.calls.specs.Write.{write}
 use Rattle.calls.specs.Turn.{Batch, turnRefusal, turnFront, turnBatches, batchesOf, beforeLast}
 use Rattle.calls.specs.Recovery.{rebuilt, rebuildBlocks, rebuildNodes}
@@ -25,6 +26,10 @@ record Seen : Type 0 where
 
 seen : ℕ → Called → Seen
 seen n c = record { answer = c .answer; cache = c .after .cache; cell = part (c .after .array) (72 * n) 72 }
+
+-- what a read answers, and what it leaves in its output
+given : Reading → Answer × List ℕ
+given r = (r .called .answer, r .output)
 
 -- the cell numbers of each batch, and its section
 shapes : List Batch → List (List ℕ × List ℕ)
@@ -144,6 +149,31 @@ written :
 unfolding run sparse upTo seen start
 written = refl
 
+read-blank :
+    given (read (upTo 48 0) 3 4 (replicate 64 7) start)
+    ≡ (Blank 0, replicate 64 255)
+unfolding run sparse upTo given start
+read-blank = refl
+
+read-cut :
+    given (read (upTo 48 0) 64 4 (replicate 64 7) start)
+    ≡ (Cut 4, replicate 64 7)
+unfolding run sparse upTo given start
+read-cut = refl
+
+read-past :
+    given (read (upTo 48 0) 512 4 (replicate 64 7) start)
+    ≡ (Refused 6 0 0 0, replicate 64 7)
+unfolding run sparse upTo given start
+read-past = refl
+
+read-damaged :
+    given (read (upTo 48 0) 0 4 (replicate 64 7)
+    (record { array = set (start .array) 0 9; control = start .control; cache = start .cache }))
+    ≡ (Refused 25 0 0 0, replicate 64 7)
+unfolding run sparse upTo given start
+read-damaged = refl
+
 front :
     turnFront 1 (start .control) (start .cache) 0 []
     ≡ record {
@@ -157,13 +187,19 @@ front = refl
 
 turned :
     shapes (turnBatches (upTo 48 0) 0 start (start .cache) [])
-    ≡ (512 ∷ 0 ∷ [], 1 ∷ 0 ∷ 0 ∷ 0 ∷ 0 ∷ 0 ∷ 0 ∷ 0 ∷ 0 ∷ 6 ∷ 0 ∷ 0 ∷ 0 ∷ 0 ∷ 0 ∷ 0 ∷ 0 ∷ []) ∷ (1 ∷ [], 1 ∷ 0 ∷ 0 ∷ 0 ∷ 0 ∷ 0 ∷ 0 ∷ 0 ∷ 0 ∷ 4 ∷ 0 ∷ 0 ∷ 0 ∷ 0 ∷ 0 ∷ 0 ∷ 0 ∷ []) ∷ (512 ∷ 2 ∷ [], 0 ∷ 0 ∷ 0 ∷ 0 ∷ 0 ∷ 0 ∷ 0 ∷ 0 ∷ 0 ∷ 0 ∷ 0 ∷ 0 ∷ 0 ∷ 0 ∷ 0 ∷ 0 ∷ 0 ∷ []) ∷ []
+    ≡ (512 ∷ 0 ∷ [], 1 ∷ 0 ∷ 0 ∷ 0 ∷ 0 ∷ 0 ∷ 0 ∷ 0 ∷ 0 ∷ 6 ∷ 0 ∷ 0 ∷ 0 ∷ 0 ∷ 0 ∷ 0 ∷ 0 ∷ [])
+    ∷ (1 ∷ [], 1 ∷ 0 ∷ 0 ∷ 0 ∷ 0 ∷ 0 ∷ 0 ∷ 0 ∷ 0 ∷ 4 ∷ 0 ∷ 0 ∷ 0 ∷ 0 ∷ 0 ∷ 0 ∷ 0 ∷ [])
+    ∷ (512 ∷ 2 ∷ [], 0 ∷ 0 ∷ 0 ∷ 0 ∷ 0 ∷ 0 ∷ 0 ∷ 0 ∷ 0 ∷ 0 ∷ 0 ∷ 0 ∷ 0 ∷ 0 ∷ 0 ∷ 0 ∷ 0 ∷ [])
+    ∷ []
 unfolding run sparse upTo shapes start
 turned = refl
 
 resumed :
-    shapes (turnBatches (upTo 48 0) 0 (record { array = start .array; control = openControl; cache = start .cache }) (start .cache) [])
-    ≡ (1 ∷ [], 1 ∷ 0 ∷ 0 ∷ 0 ∷ 0 ∷ 0 ∷ 0 ∷ 0 ∷ 0 ∷ 4 ∷ 0 ∷ 0 ∷ 0 ∷ 0 ∷ 0 ∷ 0 ∷ 0 ∷ []) ∷ (512 ∷ 2 ∷ [], 0 ∷ 0 ∷ 0 ∷ 0 ∷ 0 ∷ 0 ∷ 0 ∷ 0 ∷ 0 ∷ 0 ∷ 0 ∷ 0 ∷ 0 ∷ 0 ∷ 0 ∷ 0 ∷ 0 ∷ []) ∷ []
+    shapes (turnBatches (upTo 48 0) 0
+    (record { array = start .array; control = openControl; cache = start .cache }) (start .cache) [])
+    ≡ (1 ∷ [], 1 ∷ 0 ∷ 0 ∷ 0 ∷ 0 ∷ 0 ∷ 0 ∷ 0 ∷ 0 ∷ 4 ∷ 0 ∷ 0 ∷ 0 ∷ 0 ∷ 0 ∷ 0 ∷ 0 ∷ [])
+    ∷ (512 ∷ 2 ∷ [], 0 ∷ 0 ∷ 0 ∷ 0 ∷ 0 ∷ 0 ∷ 0 ∷ 0 ∷ 0 ∷ 0 ∷ 0 ∷ 0 ∷ 0 ∷ 0 ∷ 0 ∷ 0 ∷ 0 ∷ [])
+    ∷ []
 unfolding run sparse upTo shapes start openControl
 resumed = refl
 
@@ -193,7 +229,8 @@ unfolding run sparse upTo start
 last = refl
 
 finished :
-    beforeLast (turnBatches (upTo 48 0) 0 start (start .cache) []) ≡ 14
+    beforeLast (turnBatches (upTo 48 0) 0 start (start .cache) [])
+    ≡ 14
 unfolding run sparse upTo start
 finished = refl
 
@@ -232,17 +269,21 @@ unfolding run sparse upTo start openControl
 open-blocks = refl
 
 read-judged :
-    accessRefusal (upTo 48 0) 0 (replicate 64 0) (record { array = start .array; control = openControl; cache = set (start .cache) 0 9 }) ≡ 23
+    accessRefusal (upTo 48 0) 0 (replicate 64 0)
+    (record { array = start .array; control = openControl; cache = set (start .cache) 0 9 })
+    ≡ 23
 unfolding run sparse upTo start openControl
 read-judged = refl
 
 turn-judged :
-    turnRefusal (upTo 48 0) 1 (record { array = start .array; control = openControl; cache = set (start .cache) 0 9 }) ≡ 23
+    turnRefusal (upTo 48 0) 1 (record { array = start .array; control = openControl; cache = set (start .cache) 0 9 })
+    ≡ 23
 unfolding run sparse upTo start openControl
 turn-judged = refl
 
 other-judged :
-    turnRefusal (upTo 48 0) 1 (record { array = start .array; control = openControl; cache = start .cache }) ≡ 30
+    turnRefusal (upTo 48 0) 1 (record { array = start .array; control = openControl; cache = start .cache })
+    ≡ 30
 unfolding run sparse upTo start openControl
 other-judged = refl
 

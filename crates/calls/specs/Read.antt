@@ -39,9 +39,9 @@ sideOk keys a c line =
 unfoldable pub lineText : List ℕ → List ℕ → List ℕ → ℕ → List ℕ
 lineText keys a c line = xorBytes (cellContent a line) (pad keys line (major (pageBlock c line)) (lineMinor c line))
 
--- what a line never written reads as
+-- the blank mark: what a line never written reads as, 64 bytes of FF hex
 unfoldable pub blankText : List ℕ
-blankText = replicate 64 0
+blankText = replicate 64 255
 
 -- a call that also writes an output
 pub record Reading : Type 0 where

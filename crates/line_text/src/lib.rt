@@ -11,8 +11,8 @@ ghost use Rattle.cache.specs.Cache.{cellContent};
 ghost use Rattle.calls.specs.Read.{sideBytes, blankText};
 use answer::Answer;
 
-// Each byte of a line never written.
-const BLANK: u8 = 0;
+// Each byte that a line never written reads as.
+const BLANK: u8 = 255;
 
 // Whether a line's data cell has the phase and the tag of a counter.
 pub fn side_ok(keys: &[u8], array: &[u8], line: usize, major: u64, minor: u64) -> bool
