@@ -1,6 +1,6 @@
 // The map of a module of depth 1, 2 or 3: where lines, counter blocks, nodes and shadow entries lie.
 ghost use mathlib.Core.Path.{_≡_};
-ghost use Prim.Native.Nat.{_+_, _≤_};
+ghost use Prim.Native.Nat.{_+_, _%_, _≤_};
 ghost use Rattle.memory_map.specs.Map.{
   line,
   node,
@@ -59,6 +59,14 @@ pub fn on_path(p: usize, l: usize) -> usize
     ensures { λ r. ⌜ r ≡ onPath p l ⌝ }
 {
     p >> (3 * l)
+}
+
+// The place of that node among the eight children of the node above it.
+pub fn child_place(p: usize, l: usize) -> usize
+    requires { ⌜ l ≤ 3 ⌝ }
+    ensures { λ r. ⌜ r ≡ onPath p l % 8 ⌝ }
+{
+    on_path(p, l) % 8
 }
 
 // The first cell of a level. The level above the top starts with the shadow cells. Levels 0 to h have

@@ -25,11 +25,12 @@ module _ (h : ℕ) (a c : List ℕ) (r p l : ℕ) where
   unfolding expectedTag
   expected-top e = rw (eq-eqb l h e)
 
-  pub expected-child : (l ≡ h → ⊥) → (b : List ℕ) (i j : ℕ) → i ≡ onPath p (l + 1) → b ≡ current h a c (l + 1) i → j ≡ onPath p l
-      → fromLe (part b (8 * (j % 8)) 8) ≡ expectedTag h a c r p l
+  pub expected-child : (l ≡ h → ⊥) → (b : List ℕ) (i j : ℕ) → i ≡ onPath p (l + 1) → b ≡ current h a c (l + 1) i → j ≡ onPath p l % 8
+      → fromLe (part b (8 * j) 8) ≡ expectedTag h a c r p l
   unfolding expectedTag
   expected-child n b i j e f g =
-      ap₂ {C = ℕ} childTag (f ∙ ap (λ (k : ℕ). current h a c (l + 1) k) e ∙ ap (λ (k : ℕ). current h a c k (onPath p k)) (add-one l)) g
+      ap₂ (λ (x : List ℕ) (k : ℕ). fromLe (part x (8 * k) 8))
+      (f ∙ ap (λ (k : ℕ). current h a c (l + 1) k) e ∙ ap (λ (k : ℕ). current h a c k (onPath p k)) (add-one l)) g
       ∙ ap (λ (t : Bool). cond t r (childTag (current h a c (suc l) (onPath p (suc l))) (onPath p l))) (sym (ne-eqb l h n))
 
 -- ---- walking

@@ -29,7 +29,7 @@ fn expected<'a>(h: usize, array: &'a [u8], cache: &'a [u8], root: u64, p: usize,
         return root;
     }
     let parent = node::current(h, array, cache, l + 1, on_path(p, l + 1));
-    words::load64(parent, 8 * (on_path(p, l) % 8))
+    words::load64(parent, 8 * memory_map::child_place(p, l))
 }
 
 // Whether the array's node of level l on the path carries it.

@@ -95,8 +95,8 @@ module _ (h : ℕ) (c : List ℕ) (sized : length c ≡ cacheLength h) (p : ℕ)
 
   pub renew-next : (l : ℕ) → l < h → ((k : ℕ) → k ≤ h → owner c (slotOf k (onPath p k)) ≡ suc (onPath p k)) → (x : List ℕ) → x
       ≡ renewedBy c p b f tags l
-      → (i s j t : ℕ) → i ≡ onPath p (l + 1) → s ≡ slotOf (l + 1) i → j ≡ onPath p l → t ≡ getD tags l 0
-      → withSlot x s (owner x s) 1 (put (content x s) (8 * (j % 8)) (toLe 8 t)) ≡ renewedBy c p b f tags (l + 1)
+      → (i s j t : ℕ) → i ≡ onPath p (l + 1) → s ≡ slotOf (l + 1) i → j ≡ onPath p l % 8 → t ≡ getD tags l 0
+      → withSlot x s (owner x s) 1 (put (content x s) (8 * j) (toLe 8 t)) ≡ renewedBy c p b f tags (l + 1)
   unfolding renewedBy
   renew-next l q held x e i s j t up slot low tag =
       let k = suc l in
@@ -104,8 +104,8 @@ module _ (h : ℕ) (c : List ℕ) (sized : length c ≡ cacheLength h) (p : ℕ)
       let at : s ≡ s' = slot ∙ ap₂ slotOf (add-one l) (up ∙ ap (onPath p) (add-one l)) in
       let same = higher l k (onPath p k) (omega arith) (omega arith) in
       let r = renewedBy c p b f tags l in
-      ap₂ {C = List ℕ} (λ (y : List ℕ) (z : ℕ). withSlot y z (owner y z) 1 (put (content y z) (8 * (j % 8)) (toLe 8 t))) e at
-      ∙ ap₂ {C = List ℕ} (λ (o : ℕ) (z : List ℕ). withSlot r s' o 1 (put z (8 * (j % 8)) (toLe 8 t))) (same .0 ∙ held k (omega arith))
+      ap₂ {C = List ℕ} (λ (y : List ℕ) (z : ℕ). withSlot y z (owner y z) 1 (put (content y z) (8 * j) (toLe 8 t))) e at
+      ∙ ap₂ {C = List ℕ} (λ (o : ℕ) (z : List ℕ). withSlot r s' o 1 (put z (8 * j) (toLe 8 t))) (same .0 ∙ held k (omega arith))
       (same .1)
-      ∙ ap₂ {C = List ℕ} (λ (u v : ℕ). withSlot r s' (suc (onPath p k)) 1 (put (content c s') (8 * (u % 8)) (toLe 8 v))) low tag
+      ∙ ap₂ {C = List ℕ} (λ (u v : ℕ). withSlot r s' (suc (onPath p k)) 1 (put (content c s') (8 * u) (toLe 8 v))) low tag
       ∙ ap (renewedBy c p b f tags) (sym (add-one l))

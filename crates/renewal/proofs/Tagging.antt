@@ -36,14 +36,14 @@ module _ (h : ℕ) (high : h ≤ 3) (keys a c : List ℕ) (p : ℕ) (b : List �
           subst (λ (i : ℕ). getD (set tags 0 t) i 0 ≡ renewedTag h keys a c p b i) (sym z) (getD-set-same tags 0 t 0 (omega arith) ∙ bottom)
 
   module _ {tags : List ℕ} {tag l : ℕ} (g : Tagging h keys a c p b tags tag l) (below : l < h) (child i t : ℕ) (x : List ℕ)
-      (low : child ≡ onPath p l)
+      (low : child ≡ onPath p l % 8)
       (up : i ≡ onPath p (l + 1)) (content : x ≡ current h a c (l + 1) i)
-      (new : t ≡ nodeTag keys (put x (8 * (child % 8)) (toLe 8 tag)) (l + 1) i) where
+      (new : t ≡ nodeTag keys (put x (8 * child) (toLe 8 tag)) (l + 1) i) where
     next-tag : t ≡ renewedTag h keys a c p b (l + 1)
     unfolding renewedTag
     next-tag =
         new
-        ∙ ap₂ (λ (y : List ℕ) (j : ℕ). nodeTag keys (put y (8 * (j % 8)) (toLe 8 tag)) (l + 1) i)
+        ∙ ap₂ (λ (y : List ℕ) (j : ℕ). nodeTag keys (put y (8 * j) (toLe 8 tag)) (l + 1) i)
         (content ∙ ap (current h a c (l + 1)) up) low
         ∙ ap₂ (λ (z j : ℕ). nodeTag keys (put (current h a c (l + 1) (onPath p (l + 1))) (8 * (onPath p l % 8)) (toLe 8 z)) (l + 1) j)
         (g .last) up

@@ -8,6 +8,7 @@ ghost use Rattle.slot_map.specs.Slots.{cacheLength, slotOf};
 ghost use Rattle.cache.specs.Cache.{owner, content, withSlot};
 ghost use Rattle.node.specs.Sized.{Sized};
 ghost use Rattle.renewal.specs.Renewed.{renewedTag, renewedBy};
+use memory_map::child_place;
 use memory_map::on_path;
 
 // The tags of the path of page p, whose counter block is now the given one: that of level l at l.
@@ -28,13 +29,13 @@ pub fn path_tags<'a>(
     tags[0] = tag;
     let mut l = 0;
     while l < h {
-        let child = on_path(p, l);
+        let child = child_place(p, l);
         l += 1;
         let i = on_path(p, l);
         tag = tag::changed_tag(
             keys,
             node::current(h, array, cache, l, i),
-            child % 8,
+            child,
             tag,
             l as u64,
             i as u64,
@@ -63,7 +64,7 @@ pub fn renew_path(h: usize, p: usize, tags: [u64; 4], block: &[u8], flag: u8, ca
     node::put_slot(cache, slot_map::slot_of(0, p), p as u64 + 1, flag, block);
     let mut l = 0;
     while l < h {
-        let j = on_path(p, l) % 8;
+        let j = child_place(p, l);
         let tag = tags[l];
         l += 1;
         renew_slot(cache, slot_map::slot_of(l, on_path(p, l)), j, tag);

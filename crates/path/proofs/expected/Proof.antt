@@ -38,8 +38,8 @@ parent c =
 current-requires : tie.Need-current-requires
 current-requires c κs = (start c .pre .0, parent c)
 
-on-path-requires-2 : tie.Need-on-path-requires-2
-on-path-requires-2 c κs = search needs
+child-place-requires : tie.Need-child-place-requires
+child-place-requires c κs = search needs
 
 mul-load64 : tie.Need-mul-load64
 mul-load64 c = search needs
@@ -55,8 +55,8 @@ returns-2 c =
     let a = start at .args in
     c .load64 .ensures
     ∙ expected-child (a .h) (a .array .now) (a .cache .now) (a .root) (a .p) (a .l) (at .before .if1 .left) _ (at .on-path .result)
-    (c .before .on-path2 .result)
-    (at .on-path .ensures) (c .before .before .current .ensures) (c .before .on-path2 .ensures)
+    (c .before .child-place .result)
+    (at .on-path .ensures) (c .before .before .current .ensures) (c .before .child-place .ensures)
 
 pub expected-spec : {M : Type 1} → statement M
 expected-spec =
@@ -67,7 +67,7 @@ expected-spec =
     add-on-path
     on-path-requires
     current-requires
-    on-path-requires-2
+    child-place-requires
     mul-load64
     load64-requires
     returns-2)

@@ -34,26 +34,26 @@ loop-holds c =
     tagging-first (a .h) (s .pre .1 .0 .flat) (a .keys .now) (a .array .now) (a .cache .now) (a .p) (a .block .now) (replicate 4 0)
     (c .node-tag .result) refl (c .node-tag .ensures)
 
-on-path-requires : tie.Need-on-path-requires Inv-loop μ-loop
-on-path-requires c κs = omega (arith, c .before .loop .inv .levels, start (c .before .before .before) .pre .1 .0 .flat)
+child-place-requires : tie.Need-child-place-requires Inv-loop μ-loop
+child-place-requires c κs = omega (arith, c .before .loop .inv .levels, start (c .before .before .before) .pre .1 .0 .flat)
 
 add-l : tie.Need-add-l Inv-loop μ-loop
 add-l c = omega (arith, c .before .before .loop .inv .levels, start (c .before .before .before .before) .pre .1 .0 .flat)
 
-on-path-requires-2 : tie.Need-on-path-requires-2 Inv-loop μ-loop
-on-path-requires-2 c κs = omega (arith, c .before .before .loop .inv .levels, start (c .before .before .before .before) .pre .1 .0 .flat)
+on-path-requires : tie.Need-on-path-requires Inv-loop μ-loop
+on-path-requires c κs = omega (arith, c .before .before .loop .inv .levels, start (c .before .before .before .before) .pre .1 .0 .flat)
 
 -- inside the loop
-abbrev begin : tie.After-on-path2 Inv-loop μ-loop → tie.Start Inv-loop μ-loop
+abbrev begin : tie.After-on-path Inv-loop μ-loop → tie.Start Inv-loop μ-loop
 begin c = start (c .before .before .before .before .before)
 
-abbrev turn : tie.After-on-path2 Inv-loop μ-loop → tie.At-loop Inv-loop μ-loop
+abbrev turn : tie.After-on-path Inv-loop μ-loop → tie.At-loop Inv-loop μ-loop
 turn c = c .before .before .before
 
-inside : (c : tie.After-on-path2 Inv-loop μ-loop) → InMap (begin c .args .h) (node (turn c .loop .l + 1) (c .on-path2 .result))
+inside : (c : tie.After-on-path Inv-loop μ-loop) → InMap (begin c .args .h) (node (turn c .loop .l + 1) (c .on-path .result))
 inside c =
     let s = begin c in
-    subst (λ (i : ℕ). InMap (s .args .h) (node (turn c .loop .l + 1) i)) (sym (c .on-path2 .ensures))
+    subst (λ (i : ℕ). InMap (s .args .h) (node (turn c .loop .l + 1) i)) (sym (c .on-path .ensures))
     (path-node (s .args .h) (s .args .p) (turn c .loop .l + 1) (s .pre .1 .1 .0) (omega (arith, c .before .before .loop-test .taken)))
 
 current-requires : tie.Need-current-requires Inv-loop μ-loop
@@ -66,7 +66,7 @@ changed-tag-requires c κs =
       s .pre .0,
       (
         ap length (c .current .ensures)
-            ∙ current-length (turn at .loop .l + 1) (at .on-path2 .result) (s .pre .1 .0) (inside at),
+            ∙ current-length (turn at .loop .l + 1) (at .on-path .result) (s .pre .1 .0) (inside at),
         omega arith,
       ),
     )
@@ -87,8 +87,8 @@ loop-again c =
     let a = s .args in
     tagging-next (a .h) (s .pre .1 .0 .flat) (a .keys .now) (a .array .now) (a .cache .now) (a .p) (a .block .now) (turn at .loop .inv)
     (at .before .before .loop-test .taken)
-    (at .before .on-path .result) (at .on-path2 .result) (c .changed-tag .result) (c .before .current .result .now)
-    (at .before .on-path .ensures) (at .on-path2 .ensures)
+    (at .before .child-place .result) (at .on-path .result) (c .changed-tag .result) (c .before .current .result .now)
+    (at .before .child-place .ensures) (at .on-path .ensures)
     (c .before .current .ensures) (c .changed-tag .ensures)
 
 returns : tie.Need-returns Inv-loop μ-loop
@@ -103,9 +103,9 @@ path-tags-spec =
     node-tag-requires
     array-write-tags
     loop-holds
-    on-path-requires
+    child-place-requires
     add-l
-    on-path-requires-2
+    on-path-requires
     current-requires
     changed-tag-requires
     mul-tags

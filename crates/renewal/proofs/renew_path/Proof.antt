@@ -70,8 +70,8 @@ size c =
     ∙ renewed-length (a .h) (a .cache .now) (s .pre .0 .1 .1 .0) (a .p) (a .block .now) (s .pre .0 .1 .1 .1 .1) (a .flag) (a .t3)
     (c .loop .l) (c .loop .inv .0)
 
-on-path-requires : tie.Need-on-path-requires Inv-loop μ-loop
-on-path-requires c κs = omega arith
+child-place-requires : tie.Need-child-place-requires Inv-loop μ-loop
+child-place-requires c κs = omega arith
 
 mul-tag : tie.Need-mul-tag Inv-loop μ-loop
 mul-tag c = omega arith
@@ -82,8 +82,8 @@ array-read-tag c = omega arith
 add-l : tie.Need-add-l Inv-loop μ-loop
 add-l c = omega arith
 
-on-path-requires-2 : tie.Need-on-path-requires-2 Inv-loop μ-loop
-on-path-requires-2 c κs = omega arith
+on-path-requires : tie.Need-on-path-requires Inv-loop μ-loop
+on-path-requires c κs = omega arith
 
 slot-of-requires-2 : tie.Need-slot-of-requires-2 Inv-loop μ-loop
 slot-of-requires-2 c κs = omega arith
@@ -97,7 +97,7 @@ renew-slot-requires c κs =
           (omega (
             arith,
             c .slot-of2 .ensures,
-            slot-within (s .args .h) (l + 1) (c .before .on-path2 .result)
+            slot-within (s .args .h) (l + 1) (c .before .on-path .result)
                 (omega (arith, c .before .before .before .before .loop-test .taken)),
           )),
       omega arith,
@@ -119,8 +119,8 @@ loop-again c =
           call .renew-slot .ensures
           ∙ renew-next (a .h) x sized (a .p) (a .block .now) (s .pre .0 .1 .1 .1 .1) (a .flag) (a .t3) (turn .loop .l)
           (omega (arith, low .before .loop-test .taken)) held (turn .loop .cache) (turn .loop .inv .1 x sized held e)
-          (slot .before .on-path2 .result) (slot .slot-of2 .result) (low .on-path .result) _ (slot .before .on-path2 .ensures)
-          (slot .slot-of2 .ensures) (low .on-path .ensures) refl,
+          (slot .before .on-path .result) (slot .slot-of2 .result) (low .child-place .result) _ (slot .before .on-path .ensures)
+          (slot .slot-of2 .ensures) (low .child-place .ensures) refl,
     )
 
 same-length : tie.Need-same-length Inv-loop μ-loop
@@ -142,11 +142,11 @@ renew-path-spec =
     add-put-slot
     put-slot-requires
     loop-holds
-    on-path-requires
+    child-place-requires
     mul-tag
     array-read-tag
     add-l
-    on-path-requires-2
+    on-path-requires
     slot-of-requires-2
     renew-slot-requires
     loop-less
