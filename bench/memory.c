@@ -157,14 +157,24 @@ static uint64_t turn_block(const uint8_t *block, uint8_t *turned)
 
 // ---- Map, slots and validity ----
 
+static uint64_t page_of(uint64_t line)
+{
+    return line >> 6;
+}
+
+static unsigned place_of(uint64_t line)
+{
+    return line & 63;
+}
+
 static unsigned level_of(unsigned slot)
 {
-    return slot < 4 ? 0 : slot / 2 - 1;
+    return slot < 4 ? 0 : (slot >> 1) - 1;
 }
 
 static unsigned slot_of(unsigned level, uint64_t index)
 {
-    return level == 0 ? index % 4 : 2 + 2 * level + index % 2;
+    return level == 0 ? index & 3 : 2 + 2 * level + (index & 1);
 }
 
 static uint8_t *node_cell(const module *m, unsigned level, uint64_t index)
@@ -261,13 +271,13 @@ static uint32_t open_line(const module *m, uint64_t line, size_t buffer_len)
     if (line >= m->map->node[0])
         return NV_BAD_LINE;
     uint32_t refusal = at_rest(m);
-    return refusal == 0 && is_open(m->control, line / 64) ? NV_OPEN_PAGE : refusal;
+    return refusal == 0 && is_open(m->control, page_of(line)) ? NV_OPEN_PAGE : refusal;
 }
 
 // The further checks of a turn before the path.
 static uint32_t open_turn(const module *m, uint64_t page)
 {
-    if (page >= m->map->node[0] / 64)
+    if (page >= page_of(m->map->node[0]))
         return NV_BAD_LINE;
     uint32_t refusal = at_rest(m);
     return refusal == 0 && m->control[TURN_AT] != 0 && !is_open(m->control, page) ? NV_OPEN_PAGE : refusal;
@@ -417,7 +427,7 @@ uint32_t NAME(format)(uint64_t depth, const uint8_t *keys, size_t keys_len, uint
     memset(control, 0, control_len);
     for (unsigned l = 0; l < depth; l++)
         for (uint64_t i = 0; i < (uint64_t)1 << 3 * (depth - l); i++)
-            put64(node_cell(&m, l + 1, i / 8) + 8 * (i % 8), node_tag(&m, node_cell(&m, l, i), l, i));
+            put64(node_cell(&m, l + 1, i >> 3) + 8 * (i & 7), node_tag(&m, node_cell(&m, l, i), l, i));
     memcpy(control, "PIGK\1", 5);
     control[DEPTH_AT] = (uint8_t)depth;
     control[DEPTH_AT + 1] = 1;
@@ -438,11 +448,11 @@ uint32_t NAME(read)(const uint8_t *keys, size_t keys_len, uint8_t *control, size
     if (refusal)
         return refuse(numbers, refusal);
     path p;
-    uint64_t page = line / 64;
+    uint64_t page = page_of(line);
     int bad = find_path(&m, page, &p);
     if (bad >= 0)
         return answer(numbers, NV_REFUSED + NV_BAD_NODE, 0, (uint64_t)bad, page >> 3 * bad);
-    uint32_t minor = minor_of(p.content[0], line % 64);
+    uint32_t minor = minor_of(p.content[0], place_of(line));
     const uint8_t *cell = array + CELL * line;
     if (minor && data_side(&m, cell, line, p.content[0], minor) != get64(cell + CONTENT))
         return answer(numbers, NV_REFUSED + NV_BAD_DATA, 0, line, 0);
@@ -519,16 +529,16 @@ uint32_t NAME(write)(const uint8_t *keys, size_t keys_len, uint8_t *control, siz
     if (refusal)
         return refuse(numbers, refusal);
     path p;
-    uint64_t page = line / 64, tags[LEVELS];
+    uint64_t page = page_of(line), tags[LEVELS];
     int bad = find_path(&m, page, &p);
     if (bad >= 0)
         return answer(numbers, NV_REFUSED + NV_BAD_NODE, 0, (uint64_t)bad, page >> 3 * bad);
-    uint32_t minor = minor_of(p.content[0], line % 64) + 1;
+    uint32_t minor = minor_of(p.content[0], place_of(line)) + 1;
     if (minor > MINOR_MAX)
         return refuse(numbers, NV_WORN);
     uint8_t block[80]; // the renewed counter block, with room for its tag's level and index
     memcpy(block, p.content[0], CONTENT);
-    set_minor(block, line % 64, minor);
+    set_minor(block, place_of(line), minor);
     renew(&m, page, &p, block, tags);
     unsigned count = stage_path(&m, page, &p, allowance);
     if (minor % STOP_LOSS == 0)
@@ -563,7 +573,7 @@ static unsigned stage_turned(const module *m, uint64_t line, const uint8_t *bloc
                              uint64_t allowance)
 {
     uint8_t text[CONTENT];
-    cipher(m, line, block, minor_of(block, line % 64), m->array + CELL * line, text);
+    cipher(m, line, block, minor_of(block, place_of(line)), m->array + CELL * line, text);
     return stage_data(m, line, turned, 1, text, j, allowance);
 }
 

@@ -1,4 +1,4 @@
-"""The header and the static library that NV_ARCHIVE names: dialects, constants, symbols, C++, null pointers."""
+"""The header and the static library that NV_ARCHIVE names: dialects, constants, symbols, instructions, C++, null pointers."""
 
 import os
 import re
@@ -14,6 +14,9 @@ HEADER = os.path.join(os.path.dirname(os.path.abspath(__file__)), "..", "include
 ALLOWED = {"memcpy", "memmove", "memset", "memcmp"}
 LENT_FOR_READING = {"keys", "text"}
 DIALECTS = (("gcc", "c99"), ("gcc", "c11"), ("g++", "c++17"))
+DIVISION = re.compile(r"\bv?(?:i|f|fi)?div\w*")
+DIVIDED = [(kind, operator) for kind in ("uint64_t", "int64_t", "uint32_t", "int32_t", "uint8_t") for operator in "/%"]
+DIVIDED += [(kind, "/") for kind in ("float", "double", "long double")]
 
 PROGRAM = """#include "%s"
 #include <string.h>
@@ -127,6 +130,36 @@ def symbols(tally, archive):
     print("interface: the library defines %s; asks for %s" % (" ".join(sorted(given)), " ".join(sorted(asked)) or "nothing"))
 
 
+def instructions(path):
+    """The instructions of an object or archive, in words, by the symbol that they follow."""
+    found = {}
+    for line in run("objdump", "-d", "--no-show-raw-insn", path)[1].split("\n"):
+        symbol = re.match(r"[0-9a-f]+ <(\S+)>:", line)
+        if symbol:
+            here = found.setdefault(symbol.group(1), [])
+        elif re.match(r"\s+[0-9a-f]+:\t", line):
+            here.append(re.sub("<.*?>|#.*", "", line.split("\t", 1)[1]))
+    return found
+
+
+def divisions(path):
+    return [text for texts in instructions(path).values() for text in texts if DIVISION.search(text)]
+
+
+def without_division(tally, archive, work):
+    """The library has no instruction that divides; each that C has would be found."""
+    source = os.path.join(work, "divides.c")
+    for kind, operator in DIVIDED:
+        with open(source, "w") as file:
+            file.write("#include <stdint.h>\n%s f(%s a, %s b) { return a %s b; }\n" % (kind, kind, kind, operator))
+        status, said = run("gcc", "-O2", "-c", source, "-o", source + ".o")
+        tally.check(status == 0 and len(divisions(source + ".o")) > 0, "%s %s is not found: %s" % (kind, operator, said))
+    found = instructions(archive)
+    tally.check({"nv_" + name for name in SEQUENCES} <= set(found), "instructions of %s" % sorted(found))
+    tally.check(divisions(archive) == [], "the library divides: %s" % divisions(archive))
+    print("interface: none of the library's %d instructions divides" % sum(map(len, found.values())))
+
+
 def null_pointers(tally, library):
     """A slice of no bytes behind a null pointer is refused as that length is, and all else stays."""
     module = formatted(1)
@@ -159,6 +192,7 @@ def main():
         text = file.read()
     with tempfile.TemporaryDirectory() as work:
         dialects(tally, archive, work)
+        without_division(tally, archive, work)
     signatures(tally, text)
     constants(tally, text)
     symbols(tally, archive)

@@ -9,7 +9,7 @@ use native.Mathlib.Numerals.{add-one}
 use native.Mathlib.Omega.{arith}
 use lib.Dec.{lit<}
 use lib.Pow.{pow-add}
-use Rattle.words.proofs.Digits.{pow-pos, pow-mul}
+use Rattle.words.proofs.Digits.{pow-pos}
 use Rattle.words.proofs.Order.{lt-eq-gt}
 use Rattle.memory_map.specs.Map.{pages, lines, nodes, pageOf, onPath, levelStart, slots, shadowStart, shadowCells, cells, Item}
 use Rattle.memory_map.specs.Map.{cellOf, InMap}
@@ -30,10 +30,6 @@ shift-eight = upTo3 (λ n. (1 * 2 ^ (3 * n)) % 2 ^ 64 ≡ 8 ^ n) refl refl refl 
 pub shift-lines : (h : ℕ) → h ≤ 3 → (64 * 2 ^ (3 * h)) % 2 ^ 64 ≡ lines h
 unfolding lines pages
 shift-lines = upTo3 (λ n. (64 * 2 ^ (3 * n)) % 2 ^ 64 ≡ lines n) refl refl refl refl
-
--- a quotient by a power of eight by a shift
-pub shift-down : (p l : ℕ) → p / 2 ^ (3 * l) ≡ p / 8 ^ l
-shift-down p l = ap (λ (k : ℕ). p / k) (sym (pow-mul 2 3 l))
 
 -- octal ones by a shift: 585 is 1111 octal
 abbrev ones : ℕ → ℕ

@@ -37,13 +37,13 @@ pub fn lines(h: usize) -> usize
 pub fn page_of(line: usize) -> usize
     ensures { λ r. ⌜ r ≡ pageOf line ⌝ }
 {
-    line / 64
+    line >> 6
 }
 
 pub fn place_of(line: usize) -> usize
     ensures { λ r. ⌜ r ≡ placeOf line ⌝ }
 {
-    line % 64
+    line & 63
 }
 
 pub fn nodes(h: usize, l: usize) -> usize
@@ -66,7 +66,7 @@ pub fn child_place(p: usize, l: usize) -> usize
     requires { ⌜ l ≤ 3 ⌝ }
     ensures { λ r. ⌜ r ≡ onPath p l % 8 ⌝ }
 {
-    on_path(p, l) % 8
+    on_path(p, l) & 7
 }
 
 // The first cell of a level. The level above the top starts with the shadow cells. Levels 0 to h have

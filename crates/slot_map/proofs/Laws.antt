@@ -2,10 +2,11 @@
 use mathlib.Core.Path.{_≡_, refl, sym, ap, ap₂, _∙_, subst}
 use mathlib.Core.Logic.{_⊎_, inl, inr}
 use mathlib.Core.Bool.{Bool, true, false, _&&_}
-use Prim.Native.Nat.{ℕ, zero, suc, _+_, _-_, _*_, _/_, _%_, _<_, _≤_, zero-le}
+use Prim.Native.Nat.{ℕ, zero, suc, _+_, _-_, _*_, _/_, _%_, _^_, _<_, _≤_, zero-le}
 use native.Mathlib.Nat.{mod-lt}
 use native.Mathlib.Omega.{arith}
 use lib.Dec.{ltb, eqb, lit<}
+use lib.Bits.{bitAnd, and-le-r}
 use borrow.Author.Tests.{lt-ltb, le-ltb, eq-eqb, ltb-true, eqb-true}
 use Rattle.words.proofs.Order.{lt-or-ge}
 use Rattle.memory_map.specs.Map.{nodes, slots}
@@ -59,6 +60,10 @@ unfolding belongs
 node-belongs h l i p =
     ap (λ (k : ℕ). ltb i (nodes h k) && eqb (slotOf k i) (slotOf l i)) (level-slot l i)
     ∙ ap₂ (λ (a b : Bool). a && b) (lt-ltb i (nodes h l) p) (eq-eqb (slotOf l i) (slotOf l i) refl)
+
+-- the slot as the code computes it
+pub slot-fits : (l i m : ℕ) → l ≤ 3 → m ≤ 7 → 4 + 2 * (l - 1) + bitAnd i m < 2 ^ 64
+slot-fits l i m p q = omega (arith, and-le-r i m)
 
 pub slot-zero : (l i : ℕ) → l ≡ 0 → i % 4 ≡ slotOf l i
 unfolding slotOf

@@ -19,9 +19,9 @@ pub fn slot_of(l: usize, i: usize) -> usize
     ensures { λ r. ⌜ r ≡ slotOf l i ⌝ }
 {
     if l == 0 {
-        i % 4
+        i & 3
     } else {
-        4 + 2 * (l - 1) + i % 2
+        4 + 2 * (l - 1) + (i & 1)
     }
 }
 
@@ -29,7 +29,7 @@ pub fn slot_of(l: usize, i: usize) -> usize
 pub fn level_of(s: usize) -> usize
     ensures { λ r. ⌜ r ≡ levelOf s ⌝ }
 {
-    if s < 4 { 0 } else { (s - 4) / 2 + 1 }
+    if s < 4 { 0 } else { ((s - 4) >> 1) + 1 }
 }
 
 // Whether an owner, an index + 1, is a node of the map that may take slot s.
