@@ -15,7 +15,7 @@ ALLOWED = {"memcpy", "memmove", "memset", "memcmp"}
 LENT_FOR_READING = {"keys", "text"}
 DIALECTS = (("gcc", "c99"), ("gcc", "c11"), ("g++", "c++17"))
 DIVISION = re.compile(r"\bv?(?:i|f|fi)?div\w*")
-DIVIDED = [(kind, operator) for kind in ("uint64_t", "int64_t", "uint32_t", "int32_t", "uint8_t") for operator in "/%"]
+DIVIDED = [("%sint%d_t" % (sign, bits), operator) for sign in ("", "u") for bits in (8, 16, 32, 64) for operator in "/%"]
 DIVIDED += [(kind, "/") for kind in ("float", "double", "long double")]
 
 PROGRAM = """#include "%s"
@@ -147,7 +147,7 @@ def divisions(path):
 
 
 def without_division(tally, archive, work):
-    """The library has no instruction that divides; each that C has would be found."""
+    """The library has no instruction that divides; those of each integer and floating type are found."""
     source = os.path.join(work, "divides.c")
     for kind, operator in DIVIDED:
         with open(source, "w") as file:
