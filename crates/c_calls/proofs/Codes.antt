@@ -1,7 +1,7 @@
--- Every code of an answer fits the C side's number: refusals go up to 31. Assumes nothing.
+-- Every code of an answer fits the C side's number. Assumes nothing.
 use mathlib.Core.Bool.{Bool, true, false, cond}
 use mathlib.Core.List.{List, [], _∷_}
-use Prim.Native.Nat.{ℕ, zero, suc, _-_, _^_, _≤_, zero-le}
+use Prim.Native.Nat.{ℕ, zero, suc, _+_, _-_, _^_, _≤_, zero-le}
 use native.Mathlib.Omega.{arith}
 use lib.Dec.{eqb, lit≤}
 use lib.ListN.{length}
@@ -25,11 +25,15 @@ use Rattle.calls.specs.Recovery.{recoverJudged, recover}
 use Rattle.calls.specs.Format.{formatRefusal, formatted, format}
 use Rattle.calls.specs.DirtyPages.{listRefusal, listJudged, dirtyPages}
 
+-- no refusal has a higher number
+abbrev pub lastRefusal : ℕ
+lastRefusal = 31
+
 -- the code of a call's answer is small
 pub record Fits (x : Called) : Type 0 where
-  pub code : codeOf (x .answer) ≤ 131
+  pub code : codeOf (x .answer) ≤ 100 + lastRefusal
 
-refused-fits : (n k a b : ℕ) (m : Module) → n ≤ 31 → Fits (record { answer = Refused n k a b; after = m })
+refused-fits : (n k a b : ℕ) (m : Module) → n ≤ lastRefusal → Fits (record { answer = Refused n k a b; after = m })
 unfolding codeOf
 refused-fits n k a b m p = record { code = omega arith }
 
@@ -60,37 +64,37 @@ storing-fits allowance m xs answer c p = either (isCut allowance xs) (cut-fits _
 
 abbrev Small : List (Bool × ℕ) → Type 0
 Small [] = Unit {0}
-Small (x ∷ xs) = (x .1 ≤ 31) × Small xs
+Small (x ∷ xs) = (x .1 ≤ lastRefusal) × Small xs
 
-pick : (b : Bool) (x y : ℕ) → x ≤ 31 → y ≤ 31 → cond b x y ≤ 31
+pick : (b : Bool) (x y : ℕ) → x ≤ lastRefusal → y ≤ lastRefusal → cond b x y ≤ lastRefusal
 pick true x y p q = p
 pick false x y p q = q
 
-judged-small : (xs : List (Bool × ℕ)) → Small xs → judged xs ≤ 31
+judged-small : (xs : List (Bool × ℕ)) → Small xs → judged xs ≤ lastRefusal
 unfolding judged
 judged-small [] s = zero-le
 judged-small (x ∷ xs) s = pick (x .0) (x .1) (judged xs) (s .0) (judged-small xs (s .1))
 
-access-small : (keys : List ℕ) (line : ℕ) (b : List ℕ) (m : Module) → accessRefusal keys line b m ≤ 31
+access-small : (keys : List ℕ) (line : ℕ) (b : List ℕ) (m : Module) → accessRefusal keys line b m ≤ lastRefusal
 unfolding accessRefusal
 access-small keys line b m =
     judged-small _
     (lit≤ tt, (lit≤ tt, (lit≤ tt, (lit≤ tt, (lit≤ tt, (lit≤ tt, (lit≤ tt, (lit≤ tt, (lit≤ tt, (lit≤ tt, tt))))))))))
 
-turn-small : (keys : List ℕ) (p : ℕ) (m : Module) → turnRefusal keys p m ≤ 31
+turn-small : (keys : List ℕ) (p : ℕ) (m : Module) → turnRefusal keys p m ≤ lastRefusal
 unfolding turnRefusal
 turn-small keys p m =
     judged-small _ (lit≤ tt, (lit≤ tt, (lit≤ tt, (lit≤ tt, (lit≤ tt, (lit≤ tt, (lit≤ tt, (lit≤ tt, (lit≤ tt, tt)))))))))
 
-recovery-small : (keys : List ℕ) (m : Module) → recoveryRefusal keys m ≤ 31
+recovery-small : (keys : List ℕ) (m : Module) → recoveryRefusal keys m ≤ lastRefusal
 unfolding recoveryRefusal
 recovery-small keys m = judged-small _ (lit≤ tt, (lit≤ tt, (lit≤ tt, (lit≤ tt, (lit≤ tt, tt)))))
 
-format-small : (keys : List ℕ) (h : ℕ) (m : Module) → formatRefusal keys h m ≤ 31
+format-small : (keys : List ℕ) (h : ℕ) (m : Module) → formatRefusal keys h m ≤ lastRefusal
 unfolding formatRefusal
 format-small keys h m = judged-small _ (lit≤ tt, (lit≤ tt, (lit≤ tt, (lit≤ tt, (lit≤ tt, tt)))))
 
-list-refusal-small : (control cache out : List ℕ) → listRefusal control cache out ≤ 31
+list-refusal-small : (control cache out : List ℕ) → listRefusal control cache out ≤ lastRefusal
 unfolding listRefusal
 list-refusal-small control cache out = judged-small _ (lit≤ tt, (lit≤ tt, (lit≤ tt, (lit≤ tt, (lit≤ tt, tt)))))
 
@@ -112,7 +116,7 @@ module _ (keys : List ℕ) (line allowance : ℕ) (out : List ℕ) (m : Module) 
       (storing-fits allowance m (batchStores x (root (m .control))) (Done (length (batchStores x (root (m .control)))) 0) c (done-fits _ 0))
       (refused-fits 25 0 line 0 m (lit≤ tt))
 
-  read-judged : (n : ℕ) → n ≤ 31 → Fits ((readJudged n keys line allowance m out) .called)
+  read-judged : (n : ℕ) → n ≤ lastRefusal → Fits ((readJudged n keys line allowance m out) .called)
   unfolding readJudged
   read-judged zero p = read-path (pathOf keys line m)
   read-judged (suc n) p = refused-fits (suc n) 0 0 0 m p
@@ -127,7 +131,7 @@ module _ (keys : List ℕ) (line : ℕ) (text : List ℕ) (allowance : ℕ) (m :
   write-path (loaded c x) =
       either (eqb (lineMinor c line) 127) (refused-fits 26 0 0 0 m (lit≤ tt)) (storing-fits allowance m _ _ _ (done-fits _ 0))
 
-  write-judged : (n : ℕ) → n ≤ 31 → Fits (writeJudged n keys line text allowance m)
+  write-judged : (n : ℕ) → n ≤ lastRefusal → Fits (writeJudged n keys line text allowance m)
   unfolding writeJudged
   write-judged zero p = write-path (pathOf keys line m)
   write-judged (suc n) p = refused-fits (suc n) 0 0 0 m p
@@ -147,7 +151,7 @@ module _ (keys : List ℕ) (p allowance : ℕ) (m : Module) where
   turn-path (loaded c x) =
       either (eqb (major (blockOf c p)) (2 ^ 64 - 1)) (refused-fits 31 0 0 0 m (lit≤ tt)) (turn-checked c x _)
 
-  turn-judged : (n : ℕ) → n ≤ 31 → Fits (turnJudged n keys p allowance m)
+  turn-judged : (n : ℕ) → n ≤ lastRefusal → Fits (turnJudged n keys p allowance m)
   unfolding turnJudged
   turn-judged zero q = turn-path (pagePath keys p m)
   turn-judged (suc n) q = refused-fits (suc n) 0 0 0 m q
@@ -173,7 +177,7 @@ module _ (keys : List ℕ) where
   recover-shadow k m os (At s) = refused-fits 27 k s 0 m (lit≤ tt)
   recover-shadow k m os Nothing = recover-rebuilt k m os _
 
-  recover-judged : (allowance : ℕ) (m : Module) (n : ℕ) → n ≤ 31 → Fits (recoverJudged n keys allowance m)
+  recover-judged : (allowance : ℕ) (m : Module) (n : ℕ) → n ≤ lastRefusal → Fits (recoverJudged n keys allowance m)
   unfolding recoverJudged
   recover-judged allowance m zero p = either (isCut allowance (pendingStores (m .control))) (cut-fits _ _) (recover-shadow _ _ _ _)
   recover-judged allowance m (suc n) p = refused-fits (suc n) 0 0 0 m p
@@ -181,7 +185,7 @@ module _ (keys : List ℕ) where
   pub recover-fits : (allowance : ℕ) (m : Module) → Fits (recover keys allowance m)
   recover-fits allowance m = recover-judged allowance m (recoveryRefusal keys m) (recovery-small keys m)
 
-  format-judged : (h : ℕ) (m : Module) (n : ℕ) → n ≤ 31
+  format-judged : (h : ℕ) (m : Module) (n : ℕ) → n ≤ lastRefusal
       → Fits (elim n as (λ _. Called) [ zero ↦ formatted keys h | suc i ↦ refuse m (suc i) 0 0 ])
   unfolding formatted
   format-judged h m zero p = done-fits 0 0 _
@@ -191,10 +195,10 @@ module _ (keys : List ℕ) where
   unfolding format
   format-fits h m = format-judged h m (formatRefusal keys h m) (format-small keys h m)
 
-list-judged : (control cache out : List ℕ) (n : ℕ) → n ≤ 31 → codeOf ((listJudged n control cache out) .answer) ≤ 131
+list-judged : (control cache out : List ℕ) (n : ℕ) → n ≤ lastRefusal → codeOf ((listJudged n control cache out) .answer) ≤ 100 + lastRefusal
 unfolding listJudged codeOf
 list-judged control cache out zero p = lit≤ tt
 list-judged control cache out (suc n) p = omega arith
 
-pub list-fits : (control cache out : List ℕ) → codeOf ((dirtyPages control cache out) .answer) ≤ 131
+pub list-fits : (control cache out : List ℕ) → codeOf ((dirtyPages control cache out) .answer) ≤ 100 + lastRefusal
 list-fits control cache out = list-judged control cache out (listRefusal control cache out) (list-refusal-small control cache out)

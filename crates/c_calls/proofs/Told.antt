@@ -1,7 +1,7 @@
 -- What the C side is told, by the length of the buffer for the numbers. Assumes nothing.
 use mathlib.Core.Path.{_≡_, ap, _∙_}
 use mathlib.Core.List.{List}
-use Prim.Native.Nat.{ℕ, _<_, _≤_}
+use Prim.Native.Nat.{ℕ, _+_, _<_, _≤_}
 use native.Mathlib.Omega.{arith}
 use borrow.Author.Tests.{eq-eqb, ne-eqb}
 use lib.ListN.{length}
@@ -12,7 +12,7 @@ use Rattle.calls.specs.Call.{Module, Called}
 use Rattle.calls.specs.Read.{Reading}
 use Rattle.calls.specs.DirtyPages.{Listing}
 use Rattle.calls.specs.ForC.{codeForC, bufferForC, leftForC}
-use Rattle.c_calls.proofs.Codes.{Fits}
+use Rattle.c_calls.proofs.Codes.{lastRefusal, Fits}
 
 -- another length than 24
 module _ (numbers : List ℕ) (wrong : length numbers ≡ 24 → ⊥) where
@@ -80,7 +80,7 @@ module _ (numbers : List ℕ) (right : length numbers ≡ 24) where
   right-list out {x} e = right-told out (x .output) (ap (λ (z : Listing). z .answer) e) (ap (λ (z : Listing). z .output) e)
 
 -- the code of a call is small
-small : {a b : Answer} → b ≡ a → codeOf a ≤ 131 → codeOf b < 200
+small : {a b : Answer} → b ≡ a → codeOf a ≤ 100 + lastRefusal → codeOf b < 200
 small e p = omega (arith, ap codeOf e, p)
 
 pub code-small : {x : Called} {b : Answer} {l : Module} → record { answer = b; after = l } ≡ x → Fits x → codeOf b < 200
@@ -90,5 +90,5 @@ pub read-small : {x : Reading} {b : Answer} {l : Module} {o : List ℕ}
     → record { called = record { answer = b; after = l }; output = o } ≡ x → Fits (x .called) → codeOf b < 200
 read-small e p = code-small (ap (λ (z : Reading). z .called) e) p
 
-pub list-small : {x : Listing} {b : Answer} {o : List ℕ} → record { answer = b; output = o } ≡ x → codeOf (x .answer) ≤ 131 → codeOf b < 200
+pub list-small : {x : Listing} {b : Answer} {o : List ℕ} → record { answer = b; output = o } ≡ x → codeOf (x .answer) ≤ 100 + lastRefusal → codeOf b < 200
 list-small e p = small (ap (λ (z : Listing). z .answer) e) p
