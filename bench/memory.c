@@ -635,8 +635,8 @@ uint32_t NAME(turn)(const uint8_t *keys, size_t keys_len, uint8_t *control, size
 
 // ---- Recovery ----
 
-// A page's counter block with its minors brought forward by the phases of its data cells; whether all could be.
-static int rebuild_block(const module *m, uint64_t page, uint8_t *block, uint64_t *sum)
+// A page's counter block with its minors brought forward by the phases of its data cells; a refusal with its line, or 0.
+static uint32_t rebuild_block(const module *m, uint64_t page, uint8_t *block, uint64_t *sum, uint64_t *line)
 {
     const uint8_t *phase = m->array + CELL * 64 * page + CONTENT;
     memcpy(block, node_cell(m, 0, page), CONTENT);
@@ -645,14 +645,16 @@ static int rebuild_block(const module *m, uint64_t page, uint8_t *block, uint64_
         uint64_t minors = get64(at), step = 0;
         for (unsigned shift = 8; shift < 64; shift += 7, phase += CELL) {
             uint64_t minor = minors >> shift & 127, ahead = (*phase - minor) & 3;
-            if (*phase > 3 || minor + ahead > MINOR_MAX)
-                return 0;
+            if (*phase > 3 || minor + ahead > MINOR_MAX) {
+                *line = (uint64_t)(phase - m->array) / CELL;
+                return *phase > 3 ? NV_BAD_PHASE : NV_BAD_COUNTER;
+            }
             step |= ahead << shift;
             *sum += ahead;
         }
         put64(at, minors + step);
     }
-    return 1;
+    return 0;
 }
 
 // A node's content: its slot's in the cache that is built, else the array's.
@@ -688,10 +690,13 @@ static uint32_t rebuild(const module *m, uint8_t *built, uint64_t *sum, uint64_t
         unsigned level = level_of(i);
         if (owner == 0)
             continue;
+        uint32_t refusal = 0;
         if (level == 0 && is_open(m->control, index))
             memcpy(content, node_cell(m, 0, index), CONTENT);
-        else if (level == 0 && !rebuild_block(m, index, content, sum))
-            return NV_BAD_PHASE;
+        else if (level == 0)
+            refusal = rebuild_block(m, index, content, sum, place);
+        if (refusal)
+            return refusal;
         for (unsigned c = 0; level > 0 && c < 8; c++)
             put64(content + 8 * c, node_tag(m, node_of(m, built, level - 1, 8 * index + c), level - 1, 8 * index + c));
     }

@@ -116,7 +116,9 @@ static const char *meaning(uint32_t code)
     case NV_REFUSED + NV_BAD_SHADOW:
         return "the shadow is damaged: slot";
     case NV_REFUSED + NV_BAD_PHASE:
-        return "a phase is damaged";
+        return "a phase is damaged: line";
+    case NV_REFUSED + NV_BAD_COUNTER:
+        return "a counter is damaged: line";
     case NV_REFUSED + NV_BAD_ROOT:
         return "the tree has not the module's root: damage, or other keys";
     default:

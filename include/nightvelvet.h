@@ -46,7 +46,7 @@ enum {
     NV_DONE = 0,     // the call has done what it says
     NV_BLANK = 1,    // a read of a line that was never written; each byte of the output is NV_BLANK_BYTE
     NV_CUT = 2,      // the allowance was smaller than the stores needed; it was used up, cache and output stay
-    NV_REFUSED = 100 // nothing was done, but that 27 to 29 come after the pending stores of a recovery
+    NV_REFUSED = 100 // nothing was done, but that 27 to 29 and 32 come after the pending stores of a recovery
 };
 
 // The mark of a line that was never written. A text may have these bytes too: the code tells the two apart.
@@ -71,16 +71,17 @@ enum {
     NV_BAD_DATA = 25,           // a data cell has not its phase or tag, or no text where a turn is to go on; place: line
     NV_WORN = 26,               // the line's counter is at 127: turn its page, then write
     NV_BAD_SHADOW = 27,         // recovery: the shadow lists what no cache holds; place: slot
-    NV_BAD_PHASE = 28,          // recovery: a phase is no phase, or brings a counter past 127
+    NV_BAD_PHASE = 28,          // recovery: a line's phase is over 3; place: line
     NV_BAD_ROOT = 29,           // recovery: the rebuilt tree has not the module's root
     NV_OPEN_PAGE = 30,          // the line's page is open: finish its turn first; of a turn: another page is open
-    NV_WORN_PAGE = 31           // turn: the page was turned 2^64 - 1 times
+    NV_WORN_PAGE = 31,          // turn: the page was turned 2^64 - 1 times
+    NV_BAD_COUNTER = 32         // recovery: a line's phase would bring its stored counter past 127; place: line
 };
 
 // Numbers of an answer: three of 8 bytes, little-endian, written whenever `numbers` is of NV_NUMBERS_LENGTH.
 // Another length of it is refused (7) before all else, with nothing written.
 enum {
-    NV_STORES_AT = 0,  // the stores made: 0 with a refusal, but with 27 to 29 those of the pending part
+    NV_STORES_AT = 0,  // the stores made: 0 with a refusal, but with 27 to 29 and 32 those of the pending part
     NV_SUM_AT = 8,     // of a done recovery: by how much counters were brought forward
     NV_FIRST_AT = 8,   // of a refusal: the first number of its place, or 0
     NV_SECOND_AT = 16  // of a refusal: the second number of its place, or 0

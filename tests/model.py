@@ -45,6 +45,7 @@ TURN_AT = 664
 TURN_PAGE_AT = 665
 TURN_MASK_AT = 673
 
+PHASE_MAX = 3
 MINOR_MAX = 127
 MAJOR_MAX = MASK64
 STOP_LOSS = 4
@@ -241,12 +242,17 @@ def node_over(keys, child_level, first_index, children):
 
 
 def brought_forward(minor, phase):
-    """The minor that a stored minor and a phase stand for, or None if the
-    phase or that minor is out of range."""
-    if phase > 3:
-        return None
-    forward = minor + (phase - minor) % 4
-    return forward if forward <= MINOR_MAX else None
+    """The minor that a stored minor and a phase stand for."""
+    return minor + (phase - minor) % 4
+
+
+def forward_fault(minor, phase):
+    """The refusal that a stored minor and a phase give, or None."""
+    if phase > PHASE_MAX:
+        return 28
+    if brought_forward(minor, phase) > MINOR_MAX:
+        return 32
+    return None
 
 
 # ---- Cache ----
@@ -699,11 +705,11 @@ def recover_call(keys, allowance, module):
     fault = owners_fault(h, owners)
     if fault is not None:
         return refused(27, fault, stores=len(stores)), module
-    rebuilt = rebuilt_slots(keys, h, module.array, owners,
-                            open_page(module.control))
-    if rebuilt is None:
-        return refused(28, stores=len(stores)), module
-    found, total = rebuilt
+    opened = open_page(module.control)
+    fault = lines_fault(h, module.array, owners, opened)
+    if fault is not None:
+        return refused(*fault, stores=len(stores)), module
+    found, total = rebuilt_slots(keys, h, module.array, owners, opened)
     top = node_of(h, module.array, found, h, 0)
     if node_tag(keys, top, h, 0) != root_of(module.control):
         return refused(29, stores=len(stores)), module
@@ -711,10 +717,24 @@ def recover_call(keys, allowance, module):
             module._replace(cache=cache_of_slots(found)))
 
 
+def lines_fault(h, array, owners, opened):
+    """The refusal of the first line whose minor cannot be brought forward,
+    by slot and then by line, with that line; or None. An open page's lines
+    are not read."""
+    for owner in owners[:COUNTER_SLOTS]:
+        if owner == 0 or owner - 1 == opened:
+            continue
+        for line, minor, phase in stored_lines(h, array, owner - 1):
+            number = forward_fault(minor, phase)
+            if number is not None:
+                return number, line
+    return None
+
+
 def rebuilt_slots(keys, h, array, owners, opened):
     """The slots of the given owners, each level from the one below, and the
-    sum by which minors were brought forward; None if one cannot be. An open
-    page's block is the array's."""
+    sum by which minors were brought forward. An open page's block is the
+    array's."""
     found = [EMPTY_SLOT] * slots(h)
     total = 0
     for slot, owner in enumerate(owners):
@@ -724,9 +744,8 @@ def rebuilt_slots(keys, h, array, owners, opened):
         if level == 0 and index == opened:
             content = array_node(h, array, 0, index)
         elif level == 0:
-            minors = minors_forward(h, array, index)
-            if None in minors:
-                return None
+            minors = [brought_forward(minor, phase)
+                      for _, minor, phase in stored_lines(h, array, index)]
             block = array_node(h, array, 0, index)
             content = counter_block(major_of(block), minors)
             total += sum(minors) - sum(minors_of(block))
@@ -738,11 +757,11 @@ def rebuilt_slots(keys, h, array, owners, opened):
     return found, total
 
 
-def minors_forward(h, array, page):
-    """A page's minors in the array, brought forward by its data cells."""
+def stored_lines(h, array, page):
+    """Line, stored minor and phase of each line of a page."""
     minors = minors_of(array_node(h, array, 0, page))
-    return [brought_forward(minor, cell_at(array, 64 * page + place)[CONTENT])
-            for place, minor in enumerate(minors)]
+    return [(line, minor, cell_at(array, line)[CONTENT])
+            for line, minor in enumerate(minors, 64 * page)]
 
 
 def node_of(h, array, found, level, index):

@@ -117,7 +117,8 @@ static job draw_job(const module *m)
 static void damage(const module *m)
 {
     uint8_t bit = (uint8_t)(1 << draw(8));
-    switch (draw(8)) {
+    uint64_t line = 64 * draw(8) + draw(64);
+    switch (draw(9)) {
     case 0:
         m->control[draw(2) ? draw(24) : draw(NV_CONTROL_LENGTH)] ^= bit;
         break;
@@ -129,7 +130,7 @@ static void damage(const module *m)
             m->cache[i] = (uint8_t)draw(256);
         break;
     case 3: // a phase
-        m->array[72 * (64 * draw(8) + draw(64)) + 64] = (uint8_t)draw(6);
+        m->array[72 * line + 64] = (uint8_t)draw(6);
         break;
     case 4: // minors that cannot be raised
         memset(m->cache + 73 * draw(4) + 9 + 8, 0xff, 56);
@@ -140,7 +141,11 @@ static void damage(const module *m)
         m->control[NV_TURN_PAGE_AT] = (uint8_t)draw(12);
         m->control[NV_TURN_PAGE_AT + 8 + draw(8)] = bit;
         break;
-    case 6: // a major that cannot be raised
+    case 6: // stored minors of 127, which most phases bring past it, and a phase beside them
+        memset(m->array + 72 * (m->lines + line / 64) + 8 + 7 * draw(8), 0xff, 7);
+        m->array[72 * line + 64] = (uint8_t)draw(6);
+        break;
+    case 7: // a major that cannot be raised
         memset(m->cache + 73 * draw(4) + 9, 0xff, 8);
         break;
     default:
@@ -199,7 +204,7 @@ static int walk(unsigned depth)
 int main(int count, char **args)
 {
     static const int wanted[] = { 0, 1, 2, 101, 102, 103, 104, 105, 106, 107, 121, 122, 123, 124, 125, 126, 127, 128, 129, 130,
-                                  131 };
+                                  131, 132 };
     int passed = 0, failed = 0;
     state = count > 1 ? strtoull(args[1], NULL, 0) : 20261115;
     build_walls(NV_ARRAY_LENGTH_3 + 1);

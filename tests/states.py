@@ -188,14 +188,29 @@ def with_bad_shadow(rng, depth, module):
     return module._replace(array=cell_patched(module.array, cell, 0, number8(owner)))
 
 
+def drawn_listed(rng, depth, module):
+    """A page, mostly one that the shadow lists."""
+    page = model.number_at(module.array, CELL * model.shadow_cell(depth, rng.randrange(4))) - 1
+    return page if 0 <= page < model.pages(depth) else rng.randrange(model.pages(depth))
+
+
 def with_other_phase(rng, depth, module):
     """Another phase on some line, mostly of a page that the shadow lists."""
-    page = model.number_at(module.array, CELL * model.shadow_cell(depth, rng.randrange(4))) - 1
-    if not 0 <= page < model.pages(depth):
-        page = rng.randrange(model.pages(depth))
-    line = 64 * page + rng.randrange(64)
+    line = 64 * drawn_listed(rng, depth, module) + rng.randrange(64)
     phase = rng.choice([0, 1, 2, 3, 4, 255])
     return module._replace(array=cell_patched(module.array, line, CONTENT, bytes([phase])))
+
+
+def with_high_minors(rng, depth, module):
+    """High stored minors and any phases on some lines of a page, mostly one that the shadow lists."""
+    page = drawn_listed(rng, depth, module)
+    block, array = model.array_node(depth, module.array, 0, page), module.array
+    minors = list(model.minors_of(block))
+    for place in rng.sample([0, 63, rng.randrange(1, 63)], rng.randrange(1, 4)):
+        minors[place] = rng.choice([124, 125, 126, 127])
+        array = cell_patched(array, 64 * page + place, CONTENT, bytes([rng.choice([0, 1, 2, 3, 3, 4, 5, 254])]))
+    block = model.counter_block(model.major_of(block), minors)
+    return module._replace(array=cell_patched(array, model.node_cell(depth, 0, page), 0, block))
 
 
 def with_worn_line(rng, depth, module):
@@ -208,7 +223,7 @@ def with_worn_line(rng, depth, module):
 
 DAMAGES = (with_bit_in_array, with_bad_control, with_other_root, with_pending, with_open_page, with_bad_section,
            with_bad_owner, with_other_dirty, with_other_slots, with_any_cache, with_bad_shadow, with_other_phase,
-           with_worn_line)
+           with_high_minors, with_worn_line)
 
 
 def damaged(rng, depth, module):

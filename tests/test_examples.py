@@ -49,6 +49,10 @@ def literal(data):
     return "sparse (%s)" % "\n    ∷ ".join(parts + ["[]"])
 
 
+def listed_terms(terms):
+    return "\n    ∷ ".join(terms + ["[]"])
+
+
 def module_text(module):
     return "record {\n    array = %s;\n    control = %s;\n    cache = %s;\n    }" % tuple(literal(part) for part in module)
 
@@ -83,7 +87,7 @@ def rebuilt(start):
     owners = [slot.owner for slot in model.slots_of_cache(module.cache)]
     blocks = literal(module.cache[:4 * 73] + bytes(len(module.cache) - 4 * 73))
     return theorem("blocks", "rebuildBlocks 1 (start .control) (start .array) 0 (%s) (emptyCache 1) 0" % octets(owners[:4]),
-                   "rebuilt (%s) 3" % blocks, "start") + theorem(
+                   "soFar (%s) 3" % blocks, "start") + theorem(
         "nodes", "rebuildNodes 1 (upTo 48 0) (start .array) 4 (%s)\n    (%s)" % (octets(owners[4:]), blocks),
         literal(module.cache), "start")
 
@@ -164,7 +168,33 @@ def rebuilt_open(start):
     block = model.array_node(1, start.array, 0, 0)
     slot = model.number8(1) + bytes([1]) + block
     return theorem("open-blocks", "rebuildBlocks 1 openControl (start .array) 0 (1 ∷ 0 ∷ 0 ∷ 0 ∷ []) (emptyCache 1) 0",
-                   "rebuilt (%s) 0" % literal(slot + bytes(len(start.cache) - 73)), "start openControl")
+                   "soFar (%s) 0" % literal(slot + bytes(len(start.cache) - 73)), "start openControl")
+
+
+def failing(start):
+    """The line that ends a recovery, and what this answers: two faults on one line, on two, and on the pages of two slots."""
+    shadow, block, next_block = (model.CELL * cell for cell in (522, 512, 513))
+    pending = bytes([1]) + start.control[7:15] + model.number8(0) + start.array[:model.CELL]
+    control = start.control[:15] + pending + start.control[15 + len(pending):]
+    calls, ends, answers, told = [], [], [], []
+    for pieces, owners, wanted in (
+            ([(136, 5), (block + 9, 63)], (1, 0, 0, 0), (28, 3, 1, 0)),
+            ([(208, 4), (block + 9, 63)], (1, 0, 0, 0), (32, 3, 1, 0)),
+            ([(208, 4), (4672, 1), (next_block + 8, 126)], (1, 2, 0, 0), (28, 3, 2, 0))):
+        array, term = bytearray(start.array), "start .array"
+        for at, byte in pieces:
+            array[at] = byte
+            term = "set (%s) %d %d" % (term, at, byte)
+        array[shadow] = owners[1]
+        answer, _ = model.recover_call(KEYS, UNLIMITED, start._replace(array=bytes(array), control=control))
+        assert answer == model.Answer("refused", *wanted)
+        end = "%s %d" % ({28: "badPhase", 32: "badMinor"}[answer.number], answer.first)
+        calls.append("rebuildBlocks 1 (start .control) (%s) 0 (%s) (emptyCache 1) 0" % (term, octets(owners)))
+        ends.append(end)
+        answers.append("(recoverRebuilt (upTo 48 0) %d start [] (%s)) .answer" % (answer.stores, end))
+        told.append("Refused %d %d %d %d" % answer[1:])
+    return theorem("failing", listed_terms(calls), listed_terms(ends), "start") + theorem(
+        "failing-told", listed_terms(answers), listed_terms(told), "start")
 
 
 def judged(start):
@@ -192,7 +222,8 @@ def listed(start):
 
 HEAD = """\
 -- Written by tests/test_examples.py: a write with an eviction and a stop-loss store, outputs of reads, the batches of a turn and of a
--- resumed one, what a recovery rebuilds, where a page is open too, refusals in sequence, and a list of dirty pages. Assumes nothing.
+-- resumed one, what a recovery rebuilds, where a page is open too, the line that ends one, refusals in sequence, and a list of dirty
+-- pages. Assumes nothing.
 use mathlib.Core.Path.{_≡_, refl}
 use mathlib.Core.List.{List, [], _∷_, map}
 use Prim.Native.Nat.{ℕ, _*_}
@@ -206,7 +237,7 @@ use Rattle.calls.specs.Call.{Module, Called, accessRefusal}
 use Rattle.calls.specs.Read.{Reading, read}
 use Rattle.calls.specs.Write.{write}
 use Rattle.calls.specs.Turn.{Batch, turnRefusal, turnFront, turnBatches, batchesOf, beforeLast}
-use Rattle.calls.specs.Recovery.{rebuilt, rebuildBlocks, rebuildNodes}
+use Rattle.calls.specs.Recovery.{soFar, badPhase, badMinor, rebuildBlocks, rebuildNodes, recoverRebuilt}
 use Rattle.calls.specs.DirtyPages.{dirtyPages}
 use Rattle.calls.proofs.Run.{run}
 use Rattle.calls.proofs.Sparse.{sparse, upTo}
@@ -249,7 +280,7 @@ def main(words):
         return 2
     start = before_eviction()
     text = HEAD % (module_text(start), literal(opened(start)))
-    for runs_of in written, reads, turned, finished, rebuilt, rebuilt_open, judged, listed:
+    for runs_of in written, reads, turned, finished, rebuilt, rebuilt_open, failing, judged, listed:
         text += runs_of(start)
     path = os.path.join(TOP, FILE)
     if words:

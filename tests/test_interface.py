@@ -114,7 +114,7 @@ def constants(tally, text):
         tally.check(values.get(name) == value, "%s is %s" % (name, values.get(name)))
     refusals = text[text.index("// Numbers of refusals."):text.index("// Numbers of an answer")]
     numbers = [int(value) for value in re.findall(r"NV_\w+ = (\d+)", refusals)]
-    tally.check(numbers == list(range(1, 8)) + list(range(21, 32)), "refusal numbers %s" % numbers)
+    tally.check(numbers == list(range(1, 8)) + list(range(21, 33)), "refusal numbers %s" % numbers)
     lines = [line for line in text.split("\n") if re.match(r"\s+NV_\w+ = ", line)]
     tally.check(all("//" in line for line in lines), "a constant without its meaning")
 

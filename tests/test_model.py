@@ -6,10 +6,10 @@ import sys
 import model
 from model import (Answer, History, Module, UNLIMITED, array_length, bench,
                    brought_forward, cache_length, cells, counter_block,
-                   dirty_list_call, for_c, format_call, minors_of, node_cell,
-                   number8, pages, lines, read_call, recover_call,
-                   run_history, shadow_cell, slot_of, slots, turn_call,
-                   write_call, zero_module)
+                   dirty_list_call, for_c, format_call, forward_fault,
+                   minors_of, node_cell, number8, pages, lines, read_call,
+                   recover_call, run_history, shadow_cell, slot_of, slots,
+                   turn_call, write_call, zero_module)
 from states import (KEYS, LISTING, OTHER_PAD, OTHER_TAG, PRINTED, cell_patched,
                     formatted, opened, patched, settled, text_of)
 
@@ -75,10 +75,16 @@ def test_primitives():
 def test_arithmetic():
     for minor, phase, wanted in ((4, 2, 6), (0, 3, 3), (5, 1, 5), (6, 1, 9),
                                  (124, 3, 127), (127, 3, 127),
-                                 (125, 0, None), (126, 1, None),
-                                 (0, 4, None), (0, 0, 0)):
+                                 (125, 0, 128), (126, 1, 129), (0, 0, 0)):
         equal("minor %d, phase %d" % (minor, phase),
               brought_forward(minor, phase), wanted)
+    past = [(125, 0), (126, 0), (126, 1), (127, 0), (127, 1), (127, 2)]
+    equal("minors brought past 127",
+          [(minor, phase) for minor in range(128) for phase in range(4)
+           if forward_fault(minor, phase) is not None], past)
+    equal("their refusal", {forward_fault(*pair) for pair in past}, {32})
+    equal("phases over 3", {forward_fault(minor, phase) for minor in range(128)
+                            for phase in range(4, 256)}, {28})
     equal("top of depth 1", node_cell(1, 1, 0), 520)
     equal("block of page 0", node_cell(1, 0, 0), 512)
     equal("shadow of slot 0", shadow_cell(1, 0), 521)
@@ -507,7 +513,9 @@ def test_recovery_refusals():
 
     answer, module = pending_write()
     equal("pending write", answer, Answer("cut", 0, 3, 0, 0))
-    ahead = counter_block(0, [0] * 63 + [125])
+    equal("cell that the pending stores overwrite",
+          [cell for cell, _ in model.queue_of(module.control)], [64])
+    past_127 = counter_block(0, [0, 0, 0, 127] + [0] * 59 + [125])
     peeled(check_refused, dict(module._asdict(), keys=KEYS), [
         (refusal(2), "keys", longer),
         (refusal(3), "control", short),
@@ -518,13 +526,63 @@ def test_recovery_refusals():
          cell_bytes_at(shadow_cell(1, 2), 0, number8(2))),
         (refusal(27, 3, 4), "array",
          cell_bytes_at(shadow_cell(1, 4), 0, number8(0))),
-        (refusal(28, 3), "array", cell_bytes_at(5, 64, b"\x04")),
-        (refusal(28, 3), "array", cell_bytes_at(512, 0, ahead)),
+        (refusal(28, 3, 0), "array", cell_bytes_at(0, 64, b"\xff")),
+        (refusal(28, 3, 3), "array", cell_bytes_at(3, 64, b"\x04")),
+        (refusal(32, 3, 3), "array", cell_bytes_at(512, 0, past_127)),
+        (refusal(28, 3, 65), "array", cell_bytes_at(65, 64, b"\x04")),
+        (refusal(32, 3, 127), "array", cell_bytes_at(
+            513, 0, counter_block(0, [0] * 63 + [126]))),
         (refusal(29, 3), "array", cell_bytes_at(519, 9, b"\x01")),
     ])
     equal("recovery without a defect",
           recover_call(KEYS, UNLIMITED, module)[0],
           Answer("done", 0, 3, 6, 0))
+
+
+def with_stored(module, line, minor, phase):
+    """The module with another stored minor and phase of a line."""
+    h = module.control[5]
+    cell = node_cell(h, 0, line // 64)
+    minors = list(minors_of(module.array[72 * cell:72 * cell + 64]))
+    minors[line % 64] = minor
+    array = cell_patched(module.array, cell, 0, counter_block(0, minors))
+    return module._replace(array=cell_patched(array, line, 64, bytes([phase])))
+
+
+def test_damaged_lines():
+    """28 and 32 with the first line, by slot and then by line; the phase of
+    a line comes before its minor."""
+    phase, minor = (0, 4), (127, 2)
+    for depth, listed in ((1, (4, 5, 2, 7)), (2, (4, 9, 2, 63)),
+                          (3, (508, 9, 2, 3))):
+        module = written(depth, *(64 * page + 9 for page in listed))
+        equal("recovery before damage", recover_call(KEYS, 0, module)[0],
+              Answer("done", 0, 0, 4, 0))
+        in_sequence = [64 * page + place for page in listed
+                       for place in (0, 1, 30, 63)]
+        for place, line in enumerate(in_sequence):
+            for later in in_sequence[place + 1:] + [None]:
+                for pair, number in ((phase, 28), (minor, 32)):
+                    hurt = with_stored(module, line, *pair)
+                    if later is not None:
+                        hurt = with_stored(hurt, later, *(
+                            phase if number == 32 else minor))
+                    equal("lines %d, %s of depth %d" % (line, later, depth),
+                          recover_call(KEYS, 0, hurt),
+                          (refusal(number, first=line), hurt))
+            for both in ((127, 4), (126, 5), (127, 254), (125, 128), (0, 255)):
+                hurt = with_stored(module, line, *both)
+                equal("minor %d, phase %d" % both,
+                      recover_call(KEYS, 0, hurt)[0], refusal(28, 0, line))
+            for good in ((124, 3), (125, 1), (126, 2), (127, 3)):
+                hurt = with_stored(module, line, *good)
+                check("minor %d, phase %d" % good,
+                      recover_call(KEYS, 0, hurt)[0].number in (0, 29))
+        for line in (0, 63):
+            hurt = module._replace(array=cell_patched(
+                module.array, line, 64, b"\x04"))
+            equal("line %d of a page that is not listed" % line,
+                  recover_call(KEYS, 0, hurt)[0].kind, "done")
 
 
 def test_list_refusals():
@@ -641,7 +699,13 @@ def test_open_page():
           number8(1) + b"\x01" + block)
     equal("media after it", after[:2], module[:2])
     equal("recovery of the same page, not open",
-          recover_call(KEYS, 0, opened(module, 2, 1))[0], refusal(28))
+          recover_call(KEYS, 0, opened(module, 2, 1))[0],
+          refusal(28, first=1))
+    for pair, number in (((0, 4), 28), ((127, 1), 32)):
+        for line in (64, 127, 128, 191):
+            equal("damage on another page",
+                  recover_call(KEYS, 0, with_stored(module, line, *pair))[0],
+                  refusal(number, first=line))
     behind = opened(written(1, 64, 0, 0), 0, 1)
     equal("an open page whose block is behind",
           recover_call(KEYS, 0, behind)[0], refusal(29))
@@ -649,6 +713,23 @@ def test_open_page():
     answer, after = recover_call(KEYS, 0, unlisted)
     equal("an open page that no slot has", answer,
           Answer("done", 0, 0, 1, 0))
+
+
+def test_open_worn_page():
+    """In a turn of worn lines a turned one has phase 1 and its old minor is
+    stored, which that phase would bring past 127."""
+    rows = tuple((line, 127, text_of(line)) for line in (64, 66, 127))
+    _, module = write_call(KEYS, 0, OUTPUT, UNLIMITED, settled(1, rows))
+    for allowance, pending in ((9, 0), (3, 4)):
+        answer, module = turn_call(KEYS, 1, allowance, module)
+        equal("cut turn of worn lines", answer,
+              Answer("cut", 0, allowance, 0, 0))
+        for turn, wanted in (
+                (module.control[664:], Answer("done", 0, pending, 1, 0)),
+                (bytes(17), refusal(32, pending, 64))):
+            control = module.control[:664] + turn
+            equal("recovery, page 1 open or not", recover_call(
+                KEYS, UNLIMITED, module._replace(control=control))[0], wanted)
 
 
 def test_bad_caches():
@@ -674,7 +755,8 @@ def test_c_side():
             (Answer("blank", 0, 7, 0, 0), 1, (7, 0, 0)),
             (Answer("cut", 0, 4, 0, 0), 2, (4, 0, 0)),
             (Answer("refused", 24, 0, 2, 63), 124, (0, 2, 63)),
-            (Answer("refused", 27, 5, 4, 0), 127, (5, 4, 0))):
+            (Answer("refused", 27, 5, 4, 0), 127, (5, 4, 0)),
+            (Answer("refused", 32, 5, 511, 0), 132, (5, 511, 0))):
         equal("C side of %r" % (answer,), for_c(full, answer),
               (code, b"".join(number8(n) for n in numbers)))
         for length in (0, 23, 25):
@@ -1157,10 +1239,10 @@ def main():
                  test_format_refusals, test_read_refusals,
                  test_write_refusals, test_turn_refusals,
                  test_resumed_turns, test_recovery_refusals,
-                 test_list_refusals, test_bad_top, test_bad_nodes,
-                 test_bad_shadows, test_bad_control_records,
-                 test_open_sections, test_open_page, test_bad_caches,
-                 test_c_side, test_stores_one_by_one,
+                 test_damaged_lines, test_list_refusals, test_bad_top,
+                 test_bad_nodes, test_bad_shadows, test_bad_control_records,
+                 test_open_sections, test_open_page, test_open_worn_page,
+                 test_bad_caches, test_c_side, test_stores_one_by_one,
                  test_turn_stores_one_by_one, test_batch_bound,
                  test_forbidden_lists, test_allowed_list, test_checker_bites,
                  test_random_histories, test_every_cut,

@@ -1,6 +1,6 @@
 """Every refusal of every call with its place, and which of two faults wins, at each depth.
 
-What is wanted stands here as the paper has it; each call is also held to the model.
+What is wanted stands here as the paper has it; library and model are both held to it.
 """
 
 from collections import namedtuple
@@ -8,21 +8,24 @@ from itertools import combinations
 
 import model
 import states
-from library import CUT, Library, NUMBERS, SEQUENCES, Tally, in_parallel
+from library import CUT, Library, NUMBERS, SEQUENCES, Tally, by_model, in_parallel, tell
 from model import CELL, CONTENT, UNLIMITED, number8, shadow_cell, slot_of
 from states import KEYS, cell_patched, patched, slot_patched, text_of
 
-# The paper's sequences; in recovery a cut comes with the pending stores.
+# The paper's sequences; in recovery a cut comes with the pending stores, and 28 and 32 are judged together, line by line.
 ORDER = {
     "format": (1, 2, 3, 4, 5),
     "read": (2, 3, 21, 4, 5, 7, 6, 22, 23, 30, 24, 25),
     "write": (2, 3, 21, 4, 5, 7, 6, 22, 23, 30, 24, 26),
     "turn": (2, 3, 21, 4, 5, 6, 22, 23, 30, 24, 31, 25),
-    "recover": (2, 3, 21, 4, 5, "cut", 27, 28, 29),
+    "recover": (2, 3, 21, 4, 5, "cut", 27, (28, 32), 29),
     "dirty_pages": (3, 21, 5, 7, 23),
 }
+STEPS = {name: {number: step for step, entry in enumerate(order)
+                for number in (entry if isinstance(entry, tuple) else (entry,))}
+         for name, order in ORDER.items()}
 
-# change takes and gives a dictionary of arguments. Among two of the same number the lower rank wins.
+# change takes and gives a dictionary of arguments. Among two of the same step the lower rank wins.
 Fault = namedtuple("Fault", "number change place rank", defaults=((0, 0), 0))
 
 
@@ -212,15 +215,46 @@ def bad_shadows(depth, free):
     return faults
 
 
-def minor_and_phase(depth, line, minor, phase):
-    """Another stored minor and phase of a line on a page that the shadow lists."""
-    def change(array):
-        block = model.array_node(depth, array, 0, line // 64)
-        minors = list(model.minors_of(block))
+# The stored minors and phases that give 32, and some next to them that do not.
+PAST = ((125, 0), (126, 0), (126, 1), (127, 0), (127, 1), (127, 2))
+NOT_PAST = ((124, 0), (124, 3), (125, 1), (126, 2), (127, 3))
+MIDDLE = 37  # a place of a page between the first and the last
+
+
+def with_cell(arguments, cell, change):
+    """Another content of a cell as it is after the pending stores: the last pending one of this number, else the array's."""
+    part, at = "array", CELL * cell
+    for j in range(arguments["control"][15]):
+        if arguments["control"][24 + 80 * j:32 + 80 * j] == number8(cell):
+            part, at = "control", 32 + 80 * j
+    return {**arguments, part: patched(arguments[part], at, change(arguments[part][at:at + CELL]))}
+
+
+def with_phase(arguments, line, phase):
+    return with_cell(arguments, line, lambda cell: patched(cell, CONTENT, bytes([phase])))
+
+
+def with_minor(arguments, depth, line, minor):
+    """Another stored minor of a line."""
+    def change(cell):
+        minors = list(model.minors_of(cell[:CONTENT]))
         minors[line % 64] = minor
-        array = cell_patched(array, model.node_cell(depth, 0, line // 64), 0, model.counter_block(0, minors))
-        return cell_patched(array, line, CONTENT, bytes([phase]))
-    return Fault(28, changed("array", change))
+        return patched(cell, 0, model.counter_block(model.major_of(cell), minors))
+    return with_cell(arguments, model.node_cell(depth, 0, line // 64), change)
+
+
+def line_fault(number, change, line):
+    """A fault of a line: they are found by slot, then by line, on one line phase before minor."""
+    return Fault(number, change, (line, 0), (slot_of(0, line // 64), line, number))
+
+
+def bad_phase(line, phase):
+    return line_fault(28, lambda a: with_phase(a, line, phase), line)
+
+
+def bad_minor(depth, line, minor, phase):
+    """It sets the phase too, so a bad phase on the same line is to be put in after it, as `both` does."""
+    return line_fault(32, lambda a: with_minor(with_phase(a, line, phase), depth, line, minor), line)
 
 
 def recovery_faults(depth, module, lines):
@@ -232,7 +266,8 @@ def recovery_faults(depth, module, lines):
     if queue:
         faults += [Fault("cut", changed("allowance", lambda _, k=k: k)) for k in range(len(queue) + 2)]
     for line in lines:
-        faults += [minor_and_phase(depth, line, *pair) for pair in ((0, 4), (0, 255), (125, 0), (126, 1), (127, 2))]
+        faults += [bad_phase(line, phase) for phase in (4, 255)]
+        faults += [bad_minor(depth, line, *pair) for pair in ((125, 0), (126, 1), (127, 2))]
     return faults + [Fault(29, changed("control", lambda c, at=at: patched(c, at, bytes([c[at] ^ 128]))))
                      for at in (root_at, root_at + 7)]
 
@@ -261,7 +296,7 @@ def after_stores(arguments, allowance):
 
 def wanted_of(name, fault, arguments):
     stores = 0
-    if fault.number in ("cut", 27, 28, 29):
+    if fault.number in ("cut", 27, 28, 29, 32):
         arguments, stores = after_stores(arguments, arguments["allowance"])
     code = CUT if fault.number == "cut" else 100 + fault.number
     numbers = number8(stores) + number8(fault.place[0]) + number8(fault.place[1])
@@ -284,7 +319,8 @@ class Refusals:
         wanted = wanted_of(name, fault, arguments)
         given = in_sequence(name, arguments)
         self.tally.compare(self.library, name, given, wanted)
-        self.tally.compare(self.library, name, given)
+        by_the_model = by_model(name, given)
+        self.tally.check(by_the_model == wanted, lambda: "the model: " + tell(name, given, by_the_model, wanted))
 
     def numbers_first(self, name, arguments):
         """Another length of the numbers is refused before all else."""
@@ -301,27 +337,46 @@ class Refusals:
         self.singles += 1
 
     def both(self, name, one, other, base):
-        order = ORDER[name]
-        first, second = sorted((one, other), key=lambda fault: (order.index(fault.number), fault.rank))
+        first, second = sorted((one, other), key=lambda fault: (STEPS[name][fault.number], fault.rank))
         self.hold(name, first, first.change(second.change(base)))
         self.pairs += 1
 
+    def without(self, name, base, codes=(0, 1)):
+        code, _ = self.tally.compare(self.library, name, in_sequence(name, base))
+        self.tally.check(code in codes, "nv_%s without a fault gave %d" % (name, code))
+
     def call(self, name, base, faults):
         """No fault, each fault alone, then pairs: variants of two different refusals, and places of the same one."""
-        code, _ = self.tally.compare(self.library, name, in_sequence(name, base))
-        self.tally.check(code in (0, 1), "nv_%s without a fault gave %d" % (name, code))
+        self.without(name, base)
         for fault in faults:
             self.one(name, fault, base)
         if name in ("read", "write", "turn", "recover") and base["control"][15] == base["control"][664] == 0:
             for fault in other_depths(base["depth"]):
                 self.one(name, fault, base)
-        missing = [n for n in ORDER[name] if n not in {f.number for f in faults}
+        missing = [n for n in STEPS[name] if n not in {f.number for f in faults}
                    and not (n == "cut" and base["control"][15] == 0)]
         self.tally.check(not missing, "nv_%s: no fault for %s" % (name, missing))
         for one, other in combinations(thinned(faults, len(base.get("array", b""))), 2):
-            if one.number != other.number or one.number in (24, 25, 27):
+            if one.number != other.number or one.number in (24, 25, 27, 28, 32):
                 if one.place != other.place or one.number != other.number:
                     self.both(name, one, other, base)
+
+    def lines(self, base, lines):
+        """Of recovery: no fault, each fault of each line, then every two lines with a fault and every line with two."""
+        depth = base["depth"]
+        self.without("recover", base)
+        chosen = []
+        for i, line in enumerate(lines):
+            phases = [bad_phase(line, phase) for phase in (4, 5, 254, 255)]
+            minors = [bad_minor(depth, line, *pair) for pair in PAST]
+            for fault in phases + minors:
+                self.hold("recover", fault, fault.change(base))
+                self.singles += 1
+            for minor, phase in NOT_PAST:  # 29 if the root is made from this block
+                self.without("recover", with_minor(with_phase(base, line, phase), depth, line, minor), (0, 129))
+            chosen += (phases[i % 3], minors[3 + i % 3])  # the bad phase too would bring the minor past 127
+        for one, other in combinations(chosen, 2):
+            self.both("recover", one, other, base)
 
 
 def thinned(faults, length):
@@ -350,11 +405,42 @@ def recovery_bases(depth):
     yield with_open(depth, pending, last // 64), (far + 4,)
 
 
-def with_open(depth, module, page):
-    module = states.opened(states.block_stored(depth, module, page), page, 2**63)
-    for place, phase in ((0, 4), (17, 255), (63, 2)):
+def passed_over(module, page):
+    """Phases that are not to be looked at, on a page that is open or not listed; the first brings a minor of 127 past it."""
+    for place, phase in ((0, 2), (1, 4), (63, 255)):
         module = module._replace(array=cell_patched(module.array, 64 * page + place, CONTENT, bytes([phase])))
     return module
+
+
+def with_open(depth, module, page):
+    return passed_over(states.opened(states.block_stored(depth, module, page), page, 2**63), page)
+
+
+def slots_bases(depth):
+    """Each counter slot lists a page, not in the sequence of the pages; page 1 is not listed. Nothing pending; a batch pending
+    that has a listed page's block and data cell; a turn of worn lines cut between its batches; one cut after its second
+    commit. Each with the listed pages that are not open."""
+    end = model.pages(depth)
+    high, low = (end - 4, end - 3, 2, end - 1), (0, 5 if depth == 1 else 9, 2, 3)
+
+    def started(pages, rows=()):
+        module = states.settled(depth, ((64, 127, text_of(1)), *rows))
+        return passed_over(states.written(module, *(64 * page + MIDDLE for page in pages)), 1)
+
+    yield started(high), high
+    module = model.write_call(KEYS, MIDDLE, text_of(9), 5, started((0, 0, 0, 4, *low[1:])))[1]
+    block = model.node_cell(depth, 0, 0)
+    assert [cell for cell, _ in model.queue_of(module.control)][2:] == [block, MIDDLE]
+    array = cell_patched(cell_patched(module.array, MIDDLE, CONTENT, b"\xff"), block, 8, b"\xff" * 56)  # not to be looked at
+    yield module._replace(array=array), low
+    for pages, page, more in ((high, high[0], 0), (low, low[2], 2)):
+        others = [other for other in pages if other != page]
+        rows = [(64 * page + place, minor, text_of(place)) for place, minor in ((0, 127), (20, 126), (62, 6))]
+        module = started(others, rows)
+        cells = model.turn_batches(3, model.turn_call(KEYS, page, UNLIMITED, module)[0].stores)[0]
+        module = passed_over(model.turn_call(KEYS, page, 2 * cells + 3 + more, module)[1], page)
+        assert model.open_page(module.control) == page and module.control[15] == more // 2
+        yield module, others
 
 
 def at_depth(depth):
@@ -372,10 +458,13 @@ def at_depth(depth):
     for more, faults in turn_bases(depth):
         refusals.call("turn", {**parts, **more}, faults)
     refusals.call("dirty_pages", parts, list_faults(depth))
+    any_cache = bytes([3]) * model.cache_length(depth)
     for module, lines in recovery_bases(depth):
-        any_cache = bytes([3]) * model.cache_length(depth)
         parts.update(control=module.control, array=module.array, cache=any_cache)
         refusals.call("recover", parts, recovery_faults(depth, module, lines))
+    for module, pages in slots_bases(depth):
+        parts.update(control=module.control, array=module.array, cache=any_cache)
+        refusals.lines(parts, [64 * page + place for page in pages for place in (0, MIDDLE, 63)])
     return depth, refusals.singles, refusals.pairs, refusals.tally.passed, refusals.tally.failed
 
 

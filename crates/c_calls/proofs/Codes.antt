@@ -20,14 +20,14 @@ use Rattle.calls.specs.Call.{Module, Called, judged, accessRefusal, refuse, sto
 use Rattle.calls.specs.Read.{Reading, lineMinor, sideOk, answered, readLoaded, readPath, readJudged, read}
 use Rattle.calls.specs.Write.{writeLoaded, writePath, writeJudged, write}
 use Rattle.calls.specs.Turn.{turnRefusal, blockOf, pagePath, turnChecked, turnLoaded, turnPath, turnJudged, turn}
-use Rattle.calls.specs.Recovery.{Rebuilt, rebuilt, damaged, recoveryRefusal, recoverRoot, recoverRebuilt, recoverShadow}
-use Rattle.calls.specs.Recovery.{recoverJudged, recover}
+use Rattle.calls.specs.Recovery.{Forwarded, soFar, badPhase, badMinor, refusalOf, recoveryRefusal, recoverRoot}
+use Rattle.calls.specs.Recovery.{recoverRebuilt, recoverShadow, recoverJudged, recover}
 use Rattle.calls.specs.Format.{formatRefusal, formatted, format}
 use Rattle.calls.specs.DirtyPages.{listRefusal, listJudged, dirtyPages}
 
 -- no refusal has a higher number
 abbrev pub lastRefusal : ℕ
-lastRefusal = 31
+lastRefusal = 32
 
 -- the code of a call's answer is small
 pub record Fits (x : Called) : Type 0 where
@@ -167,10 +167,11 @@ module _ (keys : List ℕ) where
       either (eqb (nodeTag keys (current h (m .array) c h 0) h 0) (root (m .control))) (done-fits k sum _)
       (refused-fits 29 k 0 0 m (lit≤ tt))
 
-  recover-rebuilt : (k : ℕ) (m : Module) (os : List ℕ) (r : Rebuilt) → Fits (recoverRebuilt keys k m os r)
-  unfolding recoverRebuilt
-  recover-rebuilt k m os damaged = refused-fits 28 k 0 0 m (lit≤ tt)
-  recover-rebuilt k m os (rebuilt d sum) = recover-root k m sum _
+  recover-rebuilt : (k : ℕ) (m : Module) (os : List ℕ) (r : Forwarded) → Fits (recoverRebuilt keys k m os r)
+  unfolding recoverRebuilt refusalOf
+  recover-rebuilt k m os (soFar d sum) = recover-root k m sum _
+  recover-rebuilt k m os (badPhase n) = refused-fits (refusalOf (badPhase n)) k n 0 m (lit≤ tt)
+  recover-rebuilt k m os (badMinor n) = refused-fits (refusalOf (badMinor n)) k n 0 m (lit≤ tt)
 
   recover-shadow : (k : ℕ) (m : Module) (os : List ℕ) (f : Found) → Fits (recoverShadow keys k m os f)
   unfolding recoverShadow
@@ -195,7 +196,8 @@ module _ (keys : List ℕ) where
   unfolding format
   format-fits h m = format-judged h m (formatRefusal keys h m) (format-small keys h m)
 
-list-judged : (control cache out : List ℕ) (n : ℕ) → n ≤ lastRefusal → codeOf ((listJudged n control cache out) .answer) ≤ 100 + lastRefusal
+list-judged : (control cache out : List ℕ) (n : ℕ) → n ≤ lastRefusal
+    → codeOf ((listJudged n control cache out) .answer) ≤ 100 + lastRefusal
 unfolding listJudged codeOf
 list-judged control cache out zero p = lit≤ tt
 list-judged control cache out (suc n) p = omega arith

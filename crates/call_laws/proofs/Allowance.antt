@@ -29,7 +29,7 @@ use Rattle.calls.specs.Write.{writeStores, writtenCache, writeLoaded, writePath
 use Rattle.calls.specs.Turn.{turnRefusal, blockOf, turnPlaces, badLine, turnBatches, storesFor, turnedCache, turnChecked}
 use Rattle.calls.specs.Turn.{turnLoaded, turnPath}
 use Rattle.calls.specs.Turn.{pagePath, turnJudged, turn}
-use Rattle.calls.specs.Recovery.{Rebuilt, rebuilt, damaged, rebuildBlocks, rebuildNodes, recoveryRefusal}
+use Rattle.calls.specs.Recovery.{Forwarded, soFar, badPhase, badMinor, refusalOf, rebuildBlocks, rebuildNodes, recoveryRefusal}
 use Rattle.calls.specs.Recovery.{recoverRoot, recoverRebuilt, recoverShadow, recoverMedia, recoverJudged, recover}
 use Rattle.calls.specs.History.{NotCut}
 
@@ -208,10 +208,11 @@ module _ (keys : List ℕ) (k : ℕ) (m : Module) where
   tells-root true sum n = record { stores = refl; not = done-not k sum }
   tells-root false sum n = tells-refused 29 0
 
-  tells-rebuilt : (os : List ℕ) (r : Rebuilt) → Tells (recoverRebuilt keys k m os r)
+  tells-rebuilt : (os : List ℕ) (r : Forwarded) → Tells (recoverRebuilt keys k m os r)
   unfolding recoverRebuilt recoverRoot
-  tells-rebuilt os damaged = tells-refused 28 0
-  tells-rebuilt os (rebuilt d sum) =
+  tells-rebuilt os (badPhase n) = tells-refused (refusalOf (badPhase n)) n
+  tells-rebuilt os (badMinor n) = tells-refused (refusalOf (badMinor n)) n
+  tells-rebuilt os (soFar d sum) =
       let h = depth (m .control) in
       let c = rebuildNodes h keys (m .array) 4 (drop 4 os) d in
       tells-root (eqb (nodeTag keys (current h (m .array) c h 0) h 0) (root (m .control))) sum

@@ -1,8 +1,7 @@
 -- Recovery keeps the lengths of the buffers, and bytes stay bytes. Assumes nothing.
-use mathlib.Core.Path.{_≡_, refl, sym, ap, _∙_}
+use mathlib.Core.Path.{_≡_, refl, sym, ap, _∙_, subst}
 use mathlib.Core.Bool.{Bool, true, false, cond}
 use mathlib.Core.List.{List, [], _∷_}
-use mathlib.Core.Option.{Option, none, some}
 use Prim.Native.Nat.{ℕ, zero, suc, _+_, _-_, _*_, _/_, _≤_, _<_}
 use native.Mathlib.Omega.{arith}
 use lib.Dec.{eqb, lit<}
@@ -27,9 +26,9 @@ use Rattle.journal.proofs.Each.{Each, each-take}
 use Rattle.journal.proofs.Kept.{Within, within-pending, stores-front}
 use Rattle.answer.specs.declared.Answer.the-variants.{Done, Cut, Refused}
 use Rattle.calls.specs.Call.{Module, Called, mediaOf, withMedia}
-use Rattle.calls.specs.Recovery.{forwardPage, total, Rebuilt, rebuilt, damaged, rebuildBlock}
-use Rattle.calls.specs.Recovery.{rebuildSlot, rebuildBlocks, rebuildNode, rebuildNodes, recoverRoot, recoverRebuilt}
-use Rattle.calls.specs.Recovery.{recoverShadow, recoverMedia, recoverJudged, recover, recoveryRefusal}
+use Rattle.calls.specs.Recovery.{Forwarded, soFar, badPhase, badMinor, onward, forwardPage, rebuildBlock, rebuildSlot, rebuildBlocks}
+use Rattle.calls.specs.Recovery.{rebuildNode, rebuildNodes, recoverRoot, recoverRebuilt, recoverShadow, recoverMedia, recoverJudged}
+use Rattle.calls.specs.Recovery.{recover, recoveryRefusal}
 use Rattle.call_laws.proofs.Judged.{Opened, recovery-opened, head-of}
 use Rattle.call_laws.proofs.Tags.{tags-length, tags-bytes}
 use Rattle.call_laws.proofs.Kept.{Bytes, Kept, kept-same, Buffers, after-stores, media-formed, array-cells}
@@ -51,24 +50,25 @@ empty-plain h = record { sized = length-empty h; bytes = below-empty h }
 
 -- ---- the rebuilt cache
 
-PlainIf : ℕ → Rebuilt → Type 0
-PlainIf h damaged = Unit {0}
-PlainIf h (rebuilt c t) = Plain h c
+PlainIf : ℕ → Forwarded → Type 0
+PlainIf h (soFar c t) = Plain h c
+PlainIf h (badPhase n) = Unit {0}
+PlainIf h (badMinor n) = Unit {0}
+
+onward-plain : (h : ℕ) (r : Forwarded) (next : List ℕ → ℕ → Forwarded)
+    → ((c : List ℕ) (t : ℕ) → r ≡ soFar c t → PlainIf h (next c t)) → PlainIf h (onward r next)
+unfolding onward PlainIf
+onward-plain h (soFar c t) next keeps = keeps c t refl
+onward-plain h (badPhase n) next keeps = tt
+onward-plain h (badMinor n) next keeps = tt
 
 module _ (h : ℕ) (k a : List ℕ) where
-  abbrev block : ℕ → List ℕ
-  block p = cellContent a (cellOf h (node 0 p))
-
   block-plain : (c : List ℕ) (sum s p : ℕ) → s < slots h → Plain h c → PlainIf h (rebuildBlock h k a c sum s p)
   unfolding rebuildBlock PlainIf
-  block-plain c sum s p within plain = go (forwardPage k a p (minors (block p)))
-    where
-      go : (r : Option (List ℕ)) → PlainIf h (elim r as (λ z. Rebuilt) [
-        | none ↦ damaged
-        | some ms ↦ rebuilt (withSlot c s (suc p) 1 (counterBlock (major (block p)) ms)) (sum + (total ms - total (minors (block p))))
-      ])
-      go none = tt
-      go (some ms) = with-plain h s (suc p) 1 _ c within (lit< tt) (length-counterBlock _ ms) (below-counterBlock _ ms) plain
+  block-plain c sum s p within plain =
+      let b = cellContent a (cellOf h (node 0 p)) in
+      onward-plain h (forwardPage k a p (minors b) sum) (λ ms t. soFar (withSlot c s (suc p) 1 (counterBlock (major b) ms)) t)
+      (λ ms t e. with-plain h s (suc p) 1 _ c within (lit< tt) (length-counterBlock _ ms) (below-counterBlock _ ms) plain)
 
   slot-plain : (c : List ℕ) (sum s o : ℕ) → s < slots h → Plain h c → PlainIf h (rebuildSlot h k a c sum s o)
   unfolding rebuildSlot PlainIf
@@ -79,14 +79,8 @@ module _ (h : ℕ) (k a : List ℕ) where
   unfolding rebuildBlocks PlainIf
   blocks-plain s [] c sum few plain = plain
   blocks-plain s (o ∷ os) c sum few plain =
-      next s os (omega arith) (λ d t p. blocks-plain (suc s) os d t (omega arith) p) (rebuildSlot h k a c sum s o)
-      (slot-plain c sum s o (omega arith) plain)
-    where
-      next : (s : ℕ) (os : List ℕ) → suc s + length os ≤ slots h
-          → ((d : List ℕ) (t : ℕ) → Plain h d → PlainIf h (rebuildBlocks h k a (suc s) os d t)) → (r : Rebuilt) → PlainIf h r
-          → PlainIf h (elim r as (λ z. Rebuilt) [ damaged ↦ damaged | rebuilt d t ↦ rebuildBlocks h k a (suc s) os d t ])
-      next s os few rec damaged p = tt
-      next s os few rec (rebuilt d t) p = rec d t p
+      onward-plain h (rebuildSlot h k a c sum s o) (rebuildBlocks h k a (suc s) os)
+      (λ d t e. blocks-plain (suc s) os d t (omega arith) (subst (PlainIf h) e (slot-plain c sum s o (omega arith) plain)))
 
   node-plain : (keys c : List ℕ) (s o : ℕ) → s < slots h → Plain h c → Plain h (rebuildNode h keys a c s o)
   unfolding rebuildNode
@@ -129,10 +123,11 @@ module _ (keys : List ℕ) (k : ℕ) (m : Module) (b : Bytes m) (sized : length 
       go true = rebuilt-kept m c b (p .sized ∙ sym sized) (p .bytes)
       go false = kept-same m b
 
-  rebuilt-call : (os : List ℕ) → length os ≡ slots h → (r : Rebuilt) → PlainIf h r → Kept m ((recoverRebuilt keys k m os r) .after)
+  rebuilt-call : (os : List ℕ) → length os ≡ slots h → (r : Forwarded) → PlainIf h r → Kept m ((recoverRebuilt keys k m os r) .after)
   unfolding recoverRebuilt PlainIf slots
-  rebuilt-call os e damaged p = kept-same m b
-  rebuilt-call os e (rebuilt d sum) p =
+  rebuilt-call os e (badPhase n) p = kept-same m b
+  rebuilt-call os e (badMinor n) p = kept-same m b
+  rebuilt-call os e (soFar d sum) p =
       root-kept sum (rebuildNodes h keys (m .array) 4 (drop 4 os) d)
       (nodes-plain h (m .control) (m .array) keys 4 (drop 4 os) d (omega (arith, length-drop 4 os)) p)
 

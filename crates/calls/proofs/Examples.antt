@@ -1,5 +1,6 @@
 -- Written by tests/test_examples.py: a write with an eviction and a stop-loss store, outputs of reads, the batches of a turn and of a
--- resumed one, what a recovery rebuilds, where a page is open too, refusals in sequence, and a list of dirty pages. Assumes nothing.
+-- resumed one, what a recovery rebuilds, where a page is open too, the line that ends one, refusals in sequence, and a list of dirty
+-- pages. Assumes nothing.
 use mathlib.Core.Path.{_≡_, refl}
 use mathlib.Core.List.{List, [], _∷_, map}
 use Prim.Native.Nat.{ℕ, _*_}
@@ -13,7 +14,7 @@ use Rattle.calls.specs.Call.{Module, Called, accessRefusal}
 use Rattle.calls.specs.Read.{Reading, read}
 use Rattle.calls.specs.Write.{write}
 use Rattle.calls.specs.Turn.{Batch, turnRefusal, turnFront, turnBatches, batchesOf, beforeLast}
-use Rattle.calls.specs.Recovery.{rebuilt, rebuildBlocks, rebuildNodes}
+use Rattle.calls.specs.Recovery.{soFar, badPhase, badMinor, rebuildBlocks, rebuildNodes, recoverRebuilt}
 use Rattle.calls.specs.DirtyPages.{dirtyPages}
 use Rattle.calls.proofs.Run.{run}
 use Rattle.calls.proofs.Sparse.{sparse, upTo}
@@ -236,7 +237,7 @@ finished = refl
 
 blocks :
     rebuildBlocks 1 (start .control) (start .array) 0 (1 ∷ 0 ∷ 0 ∷ 0 ∷ []) (emptyCache 1) 0
-    ≡ rebuilt (sparse ((0, 1 ∷ 0 ∷ 0 ∷ 0 ∷ 0 ∷ 0 ∷ 0 ∷ 0 ∷ 1 ∷ 0 ∷ 0 ∷ 0 ∷ 0 ∷ 0 ∷ 0 ∷ 0 ∷ 0 ∷ 129 ∷ 64 ∷ [])
+    ≡ soFar (sparse ((0, 1 ∷ 0 ∷ 0 ∷ 0 ∷ 0 ∷ 0 ∷ 0 ∷ 0 ∷ 1 ∷ 0 ∷ 0 ∷ 0 ∷ 0 ∷ 0 ∷ 0 ∷ 0 ∷ 0 ∷ 129 ∷ 64 ∷ [])
     ∷ (419, [])
     ∷ [])) 3
 unfolding run sparse upTo start
@@ -262,11 +263,35 @@ nodes = refl
 
 open-blocks :
     rebuildBlocks 1 openControl (start .array) 0 (1 ∷ 0 ∷ 0 ∷ 0 ∷ []) (emptyCache 1) 0
-    ≡ rebuilt (sparse ((0, 1 ∷ 0 ∷ 0 ∷ 0 ∷ 0 ∷ 0 ∷ 0 ∷ 0 ∷ 1 ∷ [])
+    ≡ soFar (sparse ((0, 1 ∷ 0 ∷ 0 ∷ 0 ∷ 0 ∷ 0 ∷ 0 ∷ 0 ∷ 1 ∷ [])
     ∷ (429, [])
     ∷ [])) 0
 unfolding run sparse upTo start openControl
 open-blocks = refl
+
+failing :
+    rebuildBlocks 1 (start .control) (set (set (start .array) 136 5) 36873 63) 0 (1 ∷ 0 ∷ 0 ∷ 0 ∷ []) (emptyCache 1) 0
+    ∷ rebuildBlocks 1 (start .control) (set (set (start .array) 208 4) 36873 63) 0 (1 ∷ 0 ∷ 0 ∷ 0 ∷ []) (emptyCache 1) 0
+    ∷ rebuildBlocks 1 (start .control) (set (set (set (start .array) 208 4) 4672 1) 36944 126) 0 (1 ∷ 2 ∷ 0 ∷ 0 ∷ []) (emptyCache 1) 0
+    ∷ []
+    ≡ badPhase 1
+    ∷ badMinor 1
+    ∷ badPhase 2
+    ∷ []
+unfolding run sparse upTo start
+failing = refl
+
+failing-told :
+    (recoverRebuilt (upTo 48 0) 3 start [] (badPhase 1)) .answer
+    ∷ (recoverRebuilt (upTo 48 0) 3 start [] (badMinor 1)) .answer
+    ∷ (recoverRebuilt (upTo 48 0) 3 start [] (badPhase 2)) .answer
+    ∷ []
+    ≡ Refused 28 3 1 0
+    ∷ Refused 32 3 1 0
+    ∷ Refused 28 3 2 0
+    ∷ []
+unfolding run sparse upTo start
+failing-told = refl
 
 read-judged :
     accessRefusal (upTo 48 0) 0 (replicate 64 0)

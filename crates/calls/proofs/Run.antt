@@ -8,9 +8,9 @@ use Rattle.calls.specs.Read.{sideOk, lineText, blankText, answered, read
 use Rattle.calls.specs.Write.{newBlock, lineCell, writeBatch, writeStores, writtenCache, writeLoaded, writePath, writeJudged}
 use Rattle.calls.specs.Turn.{turnRefusal, turnPlaces, badLine, batchesOf, turnFront, turnBatches, storesFor, turnedCache, turnChecked}
 use Rattle.calls.specs.Turn.{turnLoaded, turnPath, turnJudged, beforeLast, beforeFinished}
-use Rattle.calls.specs.Recovery.{recoveryRefusal, forwardFrom, forwardPage, total, rebuildBlock, rebuildSlot, rebuildBlocks}
-use Rattle.calls.specs.Recovery.{rebuildNode}
-use Rattle.calls.specs.Recovery.{rebuildNodes, recoverRoot, recoverRebuilt, recoverShadow, recoverJudged}
+use Rattle.calls.specs.Recovery.{recoveryRefusal, refusalOf, onward, forwardStep, forwardFrom, forwardPage, rebuildBlock}
+use Rattle.calls.specs.Recovery.{rebuildSlot, rebuildBlocks, rebuildNode, rebuildNodes, recoverRoot, recoverRebuilt}
+use Rattle.calls.specs.Recovery.{recoverShadow, recoverJudged}
 use Rattle.calls.specs.Format.{formatRefusal, countsFrom, freshNode, nodeCells, levelCells, freshArray, formatted, format}
 use Rattle.calls.specs.DirtyPages.{listRefusal, isDirty, dirtyFrom, pageList, listJudged}
 use Rattle.calls.specs.ForC.{codeForC, bufferForC, leftForC}
@@ -19,7 +19,7 @@ use Rattle.chacha20.specs.ChaCha20.{quarter, quarterRound, columnRound, diagona
 use Rattle.control.specs.Control.{depth, root, count, newRoot, queued, places, queue, inMap, validHead, valid, freshControl}
 use Rattle.control.specs.Control.{turnCount, turnPage, turnMask, isOpen, otherOpen, validTurn}
 use Rattle.bits.specs.Bits.{setFrom, withBits}
-use Rattle.counter.specs.Counter.{major, minors, counterBlock, withMinor, writtenFrom, turnedMinor, turned, forward, mayForward}
+use Rattle.counter.specs.Counter.{major, minors, counterBlock, withMinor, writtenFrom, turnedMinor, turned, forward}
 use Rattle.journal.specs.Journal.{store, storeAll, stages, finish, batchStores, turnStores, pendingStores}
 use Rattle.memory_map.specs.Map.{pages, lines, nodes, levelStart, slots, shadowStart, shadowCells, cells, arrayLength, cellOf, InMap}
 use Rattle.slot_map.specs.Slots.{cacheLength, slotOf, levelOf, belongs}
@@ -31,16 +31,16 @@ use Rattle.rotation.specs.Rotate.{rotl}
 
 unfoldable pub run : ℕ
 unfolding codeOf storesOf firstOf secondOf owner dirty content withSlot cellContent shadowOwner from stray anyOwner missingTop orElse
-    badSlot flagsFormed isNothing formed holds current judged formatRefusal recoveryRefusal accessRefusal listRefusal storing countsFrom
-    freshNode nodeCells levelCells freshArray formatted format sideOk lineText blankText answered readLoaded readPath readJudged
-    newBlock lineCell writeBatch writeStores writtenCache writeLoaded writePath writeJudged turnRefusal turnPlaces badLine batchesOf
-    turnFront turnBatches storesFor turnedCache turnChecked turnLoaded turnPath turnJudged beforeLast beforeFinished setFrom withBits
-    writtenFrom turnedMinor turned turnStores forwardFrom forwardPage total rebuildBlock rebuildSlot rebuildBlocks rebuildNode
-    rebuildNodes recoverRoot recoverRebuilt recoverShadow recoverJudged isDirty dirtyFrom pageList listJudged codeForC bufferForC
-    leftForC evicted loadNode loadLevels renewed renewPath tagsFrom quarter quarterRound columnRound diagonalRound rounds addStates
-    start serialised block depth root count newRoot queued places queue inMap turnCount turnPage turnMask isOpen otherOpen validHead
-    validTurn valid freshControl major minors counterBlock withMinor forward mayForward store storeAll stages finish batchStores
-    pendingStores pages lines nodes levelStart slots shadowStart shadowCells cells arrayLength cacheLength cellOf InMap slotOf levelOf
-    belongs pad xorBytes initial lastWord messageWords sipRound compress compressAll finalize sipHash nodeInput nodeTag dataInput
-    dataTag number digits wordsOf bytesOf rotl
+    badSlot flagsFormed isNothing formed holds current judged formatRefusal recoveryRefusal accessRefusal listRefusal storing
+    countsFrom freshNode nodeCells levelCells freshArray formatted format sideOk lineText blankText answered readLoaded readPath
+    readJudged newBlock lineCell writeBatch writeStores writtenCache writeLoaded writePath writeJudged turnRefusal turnPlaces badLine
+    batchesOf turnFront turnBatches storesFor turnedCache turnChecked turnLoaded turnPath turnJudged beforeLast beforeFinished setFrom
+    withBits writtenFrom turnedMinor turned turnStores refusalOf onward forwardStep forwardFrom forwardPage rebuildBlock rebuildSlot
+    rebuildBlocks rebuildNode rebuildNodes recoverRoot recoverRebuilt recoverShadow recoverJudged isDirty dirtyFrom pageList listJudged
+    codeForC bufferForC leftForC evicted loadNode loadLevels renewed renewPath tagsFrom quarter quarterRound columnRound diagonalRound
+    rounds addStates start serialised block depth root count newRoot queued places queue inMap turnCount turnPage turnMask isOpen
+    otherOpen validHead validTurn valid freshControl major minors counterBlock withMinor forward store storeAll stages finish
+    batchStores pendingStores pages lines nodes levelStart slots shadowStart shadowCells cells arrayLength cacheLength cellOf InMap
+    slotOf levelOf belongs pad xorBytes initial lastWord messageWords sipRound compress compressAll finalize sipHash nodeInput nodeTag
+    dataInput dataTag number digits wordsOf bytesOf rotl
 run = 0

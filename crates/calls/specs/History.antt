@@ -20,7 +20,7 @@ use Rattle.calls.specs.Call.{Module, Called}
 use Rattle.calls.specs.Read.{Reading, blankText, read}
 use Rattle.calls.specs.Write.{write}
 use Rattle.calls.specs.Turn.{turn, pagePath, beforeFinished}
-use Rattle.calls.specs.Recovery.{recover, total}
+use Rattle.calls.specs.Recovery.{recover}
 use Rattle.calls.specs.Format.{format, freshNode, freshRoot, countsFrom}
 use Rattle.calls.specs.DirtyPages.{dirtyPages}
 
@@ -151,6 +151,10 @@ counter h m n = minor (current h (m .array) (m .cache) 0 (pageOf n)) (placeOf n)
 
 unfoldable pub storedMinor : ℕ → Module → ℕ → ℕ
 storedMinor h m n = minor (cellContent (m .array) (cellOf h (node 0 (pageOf n)))) (placeOf n)
+
+unfoldable pub total : List ℕ → ℕ
+total [] = 0
+total (x ∷ xs) = x + total xs
 
 unfoldable pub NotCut : Answer → Type 0
 NotCut a = (k : ℕ) → a ≡ Cut k → ⊥

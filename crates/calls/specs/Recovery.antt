@@ -2,14 +2,13 @@
 -- Assumes nothing.
 use Prim.Native.Nat.{ℕ, zero, suc, _+_, _-_, _*_}
 use mathlib.Core.Bool.{cond}
-use mathlib.Core.List.{List, [], _∷_}
-use mathlib.Core.Option.{Option, none, some}
-use lib.Dec.{eqb}
+use mathlib.Core.List.{List, [], _∷_, _++_}
+use lib.Dec.{eqb, leb}
 use lib.ListN.{length, getD, take, drop}
 use Rattle.memory_map.specs.Map.Item.{node}
 use Rattle.memory_map.specs.Map.{cellOf}
 use Rattle.slot_map.specs.Slots.{levelOf}
-use Rattle.counter.specs.Counter.{major, minors, counterBlock, forward, mayForward}
+use Rattle.counter.specs.Counter.{major, minors, counterBlock, forward}
 use Rattle.tag.specs.Tag.{nodeTag}
 use Rattle.answer.specs.declared.Answer.the-variants.{Done, Cut, Refused}
 use Rattle.control.specs.Control.{depth, root, isOpen}
@@ -28,47 +27,57 @@ recoveryRefusal keys m = judged (openingTests keys m)
 abbrev pub phaseByte : List ℕ → ℕ → ℕ
 phaseByte a line = getD a (72 * line + 64) 0
 
--- minors from line n on brought forward to the phases of their lines; none where a phase is over 3 or a minor past 127
-unfoldable pub forwardFrom : List ℕ → ℕ → List ℕ → Option (List ℕ)
-forwardFrom a n [] = some []
-forwardFrom a n (s ∷ ss) =
-    let p = phaseByte a n in
-    cond (mayForward s p)
-    (elim (forwardFrom a (suc n) ss) [ none ↦ none | some ts ↦ some (forward s p ∷ ts) ])
-    none
+-- How far bringing the counters forward has come: to new minors of a page, or a cache, and the sum so far; or to a line that ends it,
+-- whose phase is over 3 or whose minor would be past 127
 
--- the minors of page p brought forward; those of a page that is open stay as they are, and none of its lines is read
-unfoldable pub forwardPage : List ℕ → List ℕ → ℕ → List ℕ → Option (List ℕ)
-forwardPage k a p ms = cond (isOpen k p) (some ms) (forwardFrom a (64 * p) ms)
+pub data Forwarded : Type 0 where
+  soFar : List ℕ → ℕ → Forwarded
+  badPhase : ℕ → Forwarded
+  badMinor : ℕ → Forwarded
 
-unfoldable pub total : List ℕ → ℕ
-total [] = 0
-total (x ∷ xs) = x + total xs
+-- the refusal of each, 0 where there is none
+unfoldable pub refusalOf : Forwarded → ℕ
+refusalOf (soFar x sum) = 0
+refusalOf (badPhase n) = 28
+refusalOf (badMinor n) = 32
 
--- counter slots rebuilt: the cache and the sum brought forward so far
-pub data Rebuilt : Type 0 where
-  rebuilt : List ℕ → ℕ → Rebuilt
-  damaged : Rebuilt
+-- on with what is made so far; the first line that fails ends it
+unfoldable pub onward : Forwarded → (List ℕ → ℕ → Forwarded) → Forwarded
+onward (soFar x sum) next = next x sum
+onward (badPhase n) next = badPhase n
+onward (badMinor n) next = badMinor n
+
+-- the step of line n: its minor s brought forward to its phase p, after the new minors ms; the phase is judged before the minor
+unfoldable pub forwardStep : ℕ → ℕ → ℕ → List ℕ → ℕ → Forwarded
+forwardStep n s p ms sum =
+    cond (leb p 3)
+    (cond (leb (forward s p) 127) (soFar (ms ++ (forward s p ∷ [])) (sum + (forward s p - s))) (badMinor n))
+    (badPhase n)
+
+-- the lines from n on, whose minors are these, after the new minors ms
+unfoldable pub forwardFrom : List ℕ → ℕ → List ℕ → List ℕ → ℕ → Forwarded
+forwardFrom a n [] ms sum = soFar ms sum
+forwardFrom a n (s ∷ ss) ms sum = onward (forwardStep n s (phaseByte a n) ms sum) (forwardFrom a (suc n) ss)
+
+-- the lines of page p, whose minors are ss; those of a page that is open stay as they are, and none of its lines is read
+unfoldable pub forwardPage : List ℕ → List ℕ → ℕ → List ℕ → ℕ → Forwarded
+forwardPage k a p ss sum = cond (isOpen k p) (soFar ss sum) (forwardFrom a (64 * p) ss [] sum)
 
 -- the block of page p, of the array, brought forward into slot s of c; k is the control record
-unfoldable pub rebuildBlock : ℕ → List ℕ → List ℕ → List ℕ → ℕ → ℕ → ℕ → Rebuilt
+unfoldable pub rebuildBlock : ℕ → List ℕ → List ℕ → List ℕ → ℕ → ℕ → ℕ → Forwarded
 rebuildBlock h k a c sum s p =
     let b = cellContent a (cellOf h (node 0 p)) in
-    elim (forwardPage k a p (minors b)) [
-      | none ↦ damaged
-      | some ms ↦ rebuilt (withSlot c s (suc p) 1 (counterBlock (major b) ms)) (sum + (total ms - total (minors b)))
-    ]
+    onward (forwardPage k a p (minors b) sum) (λ ms t. soFar (withSlot c s (suc p) 1 (counterBlock (major b) ms)) t)
 
 -- slot s for the owner that the shadow lists there
-unfoldable pub rebuildSlot : ℕ → List ℕ → List ℕ → List ℕ → ℕ → ℕ → ℕ → Rebuilt
-rebuildSlot h k a c sum s zero = rebuilt c sum
+unfoldable pub rebuildSlot : ℕ → List ℕ → List ℕ → List ℕ → ℕ → ℕ → ℕ → Forwarded
+rebuildSlot h k a c sum s zero = soFar c sum
 rebuildSlot h k a c sum s (suc p) = rebuildBlock h k a c sum s p
 
 -- counter slots from s on, for these owners
-unfoldable pub rebuildBlocks : ℕ → List ℕ → List ℕ → ℕ → List ℕ → List ℕ → ℕ → Rebuilt
-rebuildBlocks h k a s [] c sum = rebuilt c sum
-rebuildBlocks h k a s (o ∷ os) c sum =
-    elim (rebuildSlot h k a c sum s o) [ damaged ↦ damaged | rebuilt d t ↦ rebuildBlocks h k a (suc s) os d t ]
+unfoldable pub rebuildBlocks : ℕ → List ℕ → List ℕ → ℕ → List ℕ → List ℕ → ℕ → Forwarded
+rebuildBlocks h k a s [] c sum = soFar c sum
+rebuildBlocks h k a s (o ∷ os) c sum = onward (rebuildSlot h k a c sum s o) (rebuildBlocks h k a (suc s) os)
 
 -- a node from the tags of its children as rebuilt, else as in the array
 unfoldable pub rebuildNode : ℕ → List ℕ → List ℕ → List ℕ → ℕ → ℕ → List ℕ
@@ -92,9 +101,10 @@ recoverRoot keys k m sum c =
     (record { answer = Done k sum; after = record { array = m .array; control = m .control; cache = c } })
     (refuseAfter k m 29 0)
 
-unfoldable pub recoverRebuilt : List ℕ → ℕ → Module → List ℕ → Rebuilt → Called
-recoverRebuilt keys k m os damaged = refuseAfter k m 28 0
-recoverRebuilt keys k m os (rebuilt d sum) = recoverRoot keys k m sum (rebuildNodes (depth (m .control)) keys (m .array) 4 (drop 4 os) d)
+unfoldable pub recoverRebuilt : List ℕ → ℕ → Module → List ℕ → Forwarded → Called
+recoverRebuilt keys k m os (soFar d sum) = recoverRoot keys k m sum (rebuildNodes (depth (m .control)) keys (m .array) 4 (drop 4 os) d)
+recoverRebuilt keys k m os (badPhase n) = refuseAfter k m (refusalOf (badPhase n)) n
+recoverRebuilt keys k m os (badMinor n) = refuseAfter k m (refusalOf (badMinor n)) n
 
 -- the cache is built only from the owners os that the shadow lists
 unfoldable pub recoverShadow : List ℕ → ℕ → Module → List ℕ → Found → Called

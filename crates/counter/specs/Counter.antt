@@ -1,8 +1,8 @@
 -- The counter block of a page: a major of 8 bytes, then 64 minors of 7 bits. Assumes nothing.
 use Prim.Native.Nat.{ℕ, suc, _+_, _-_, _%_}
-use mathlib.Core.Bool.{Bool, _&&_, cond}
+use mathlib.Core.Bool.{cond}
 use mathlib.Core.List.{List, [], _∷_, _++_, map}
-use lib.Dec.{eqb, leb}
+use lib.Dec.{eqb}
 use lib.ListN.{getD, set, take, drop}
 use Rattle.words.specs.Bytes.{number, digits, fromLe, toLe}
 
@@ -31,10 +31,6 @@ phaseOf s = s % 4
 -- a minor s brought forward to a phase p: s + ((p - s) mod 4)
 unfoldable pub forward : ℕ → ℕ → ℕ
 forward s p = s + (p + (4 - s % 4)) % 4
-
--- whether it may be: a phase is at most 3, a minor at most 127
-unfoldable pub mayForward : ℕ → ℕ → Bool
-mayForward s p = leb p 3 && leb (forward s p) 127
 
 -- the places of written lines from place j on: those whose minor is not 0
 unfoldable pub writtenFrom : ℕ → List ℕ → List ℕ

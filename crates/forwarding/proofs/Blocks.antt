@@ -2,7 +2,6 @@
 use mathlib.Core.Path.{_≡_, refl, sym, ap, ap₂, _∙_}
 use mathlib.Core.Bool.{cond}
 use mathlib.Core.List.{List, _∷_}
-use mathlib.Core.Option.{Option, none, some}
 use Prim.Native.Nat.{ℕ, zero, suc, _+_, _-_, _*_, _≤_, _<_}
 use native.Mathlib.Numerals.{add-one}
 use native.Mathlib.Omega.{arith}
@@ -20,9 +19,9 @@ use Rattle.control.specs.Control.{isOpen}
 use Rattle.cache.specs.Cache.{withSlot, cellContent}
 use Rattle.cache.proofs.Owners.{rest, none as past}
 use Rattle.node.proofs.Laws.{slot-put, cell-room}
-use Rattle.calls.specs.Recovery.{Rebuilt, rebuilt, damaged, forwardPage, phaseByte, total, rebuildBlock, rebuildSlot, rebuildBlocks}
+use Rattle.calls.specs.Recovery.{Forwarded, soFar, onward, forwardPage, phaseByte, rebuildBlock, rebuildSlot, rebuildBlocks}
 use Rattle.forwarding.specs.Rebuild.{Placed}
-use Rattle.forwarding.proofs.Forward.{Forwarding, forwarding-sum, forwarded, page-fails, page-all}
+use Rattle.forwarding.proofs.Forward.{Forwarding, forwarded, failed, failed-ends, page-fails, page-all}
 
 -- the owners from slot s on, of n
 abbrev pub left : List ℕ → ℕ → ℕ → List ℕ
@@ -62,12 +61,8 @@ module _ (h : ℕ) (k a os : List ℕ) where
   abbrev owner : ℕ → ℕ
   owner s = getD os s 0
 
-  -- what is left to do after a slot
-  abbrev onward : ℕ → List ℕ → Rebuilt → Rebuilt
-  onward s os r = elim r as (λ z. Rebuilt) [ damaged ↦ damaged | rebuilt d t ↦ rebuildBlocks h k a s os d t ]
-
-  -- and from slot s on
-  abbrev pub blocksFrom : ℕ → List ℕ → ℕ → Rebuilt
+  -- what is left to do from slot s on
+  abbrev pub blocksFrom : ℕ → List ℕ → ℕ → Forwarded
   blocksFrom s c sum = rebuildBlocks h k a s (left os 4 s) c sum
 
   -- the counter slots before s are rebuilt, from the cache first: c with what is told so far
@@ -83,26 +78,25 @@ module _ (h : ℕ) (k a os : List ℕ) where
         most = r .most;
         few = omega (arith, r .few);
         full = ap length e ∙ r .full;
-        rest = r .rest ∙ sym (ap₂ {C = Rebuilt} (blocksFrom s) e f);
+        rest = r .rest ∙ sym (ap₂ {C = Forwarded} (blocksFrom s) e f);
       }
 
-  pub blocks-end : (s : ℕ) → 4 ≤ s → (c : List ℕ) (sum : ℕ) → blocksFrom s c sum ≡ rebuilt c sum
+  pub blocks-end : (s : ℕ) → 4 ≤ s → (c : List ℕ) (sum : ℕ) → blocksFrom s c sum ≡ soFar c sum
   unfolding rebuildBlocks
   blocks-end s p c sum = rw (past os 4 s p)
 
   module _ (size : length os ≡ 10) where
     module _ (s : ℕ) (p : s < 4) (c : List ℕ) (sum : ℕ) where
-      slot-then : {r : Rebuilt} → rebuildSlot h k a c sum s (owner s) ≡ r → blocksFrom s c sum ≡ onward (suc s) (left os 4 (s + 1)) r
+      slot-then : {r : Forwarded} → rebuildSlot h k a c sum s (owner s) ≡ r
+          → blocksFrom s c sum ≡ onward r (rebuildBlocks h k a (suc s) (left os 4 (s + 1)))
       unfolding rebuildBlocks
       slot-then {r} e =
           ap (λ (l : List ℕ). rebuildBlocks h k a s l c sum) (left-next os 4 s p (omega arith))
-          ∙ ap (onward (suc s) (left os 4 (s + 1))) e
+          ∙ ap (λ (x : Forwarded). onward x (rebuildBlocks h k a (suc s) (left os 4 (s + 1)))) e
 
-      slot-first : {d : List ℕ} {t : ℕ} → rebuildSlot h k a c sum s (owner s) ≡ rebuilt d t → blocksFrom s c sum ≡ blocksFrom (s + 1) d t
+      slot-first : {d : List ℕ} {t : ℕ} → rebuildSlot h k a c sum s (owner s) ≡ soFar d t → blocksFrom s c sum ≡ blocksFrom (s + 1) d t
+      unfolding onward
       slot-first {d} {t} e = slot-then e ∙ ap (λ (i : ℕ). rebuildBlocks h k a i (left os 4 (s + 1)) d t) (sym (add-one s))
-
-      slot-ends : rebuildSlot h k a c sum s (owner s) ≡ damaged → blocksFrom s c sum ≡ damaged
-      slot-ends e = slot-then e
 
       pub blocks-empty : owner s ≡ 0 → blocksFrom s c sum ≡ blocksFrom (s + 1) c sum
       unfolding rebuildSlot
@@ -118,25 +112,29 @@ module _ (h : ℕ) (k a os : List ℕ) where
         as-minors : ms ≡ minors (cellContent a (cellOf h (node 0 (owner s - 1))))
         as-minors = w ∙ ap minors u
 
-        as-forward : {r : Option (List ℕ)} → forwardPage k a (owner s - 1) ms ≡ r
-            → forwardPage k a (owner s - 1) (minors (cellContent a (cellOf h (node 0 (owner s - 1))))) ≡ r
-        as-forward f = ap (forwardPage k a (owner s - 1)) (sym as-minors) ∙ f
-
-        blocks-damaged : forwardPage k a (owner s - 1) ms ≡ none → blocksFrom s c sum ≡ damaged
+        -- the block's minors brought forward, and then its slot
+        slot-forward : {r : Forwarded} → forwardPage k a (owner s - 1) ms sum ≡ r
+            → let b = cellContent a (cellOf h (node 0 (owner s - 1))) in
+            rebuildSlot h k a c sum s (owner s)
+            ≡ onward r (λ (ns : List ℕ) (t : ℕ). soFar (withSlot c s (suc (owner s - 1)) 1 (counterBlock (major b) ns)) t)
         unfolding rebuildBlock
-        blocks-damaged f = slot-ends (block ∙ rw (rebuildBlock, as-forward f))
+        slot-forward f =
+            block
+            ∙ ap (λ (r : Forwarded). onward r (λ (ns : List ℕ) (t : ℕ). soFar
+            (withSlot c s (suc (owner s - 1)) 1 (counterBlock (major (cellContent a (cellOf h (node 0 (owner s - 1))))) ns)) t))
+            (ap (λ (l : List ℕ). forwardPage k a (owner s - 1) l sum) (sym as-minors) ∙ f)
 
-        blocks-next : {cur d : List ℕ} {t ma : ℕ} → forwardPage k a (owner s - 1) ms ≡ some cur → t ≡ sum + (total cur - total ms)
-            → ma ≡ major b → d ≡ withSlot c s (owner s) 1 (counterBlock ma cur) → blocksFrom s c sum ≡ blocksFrom (s + 1) d t
-        unfolding rebuildBlock
-        blocks-next {cur} {d} {t} {ma} f g m z =
-            let cell = cellContent a (cellOf h (node 0 (owner s - 1))) in
-            let slot : withSlot c s (suc (owner s - 1)) 1 (counterBlock (major cell) cur) ≡ d =
-            ap₂ {C = List ℕ} (λ (o i : ℕ). withSlot c s o 1 (counterBlock i cur)) (sym (filled (owner s) some·)) (sym (m ∙ ap major u))
-            ∙ sym z in
-            let told : sum + (total cur - total (minors cell)) ≡ t =
-            ap (λ (x : List ℕ). sum + (total cur - total x)) (sym as-minors) ∙ sym g in
-            slot-first (block ∙ rw (rebuildBlock, as-forward f) (ap₂ {C = Rebuilt} rebuilt slot told))
+        blocks-fails : (phase n : ℕ) → forwardPage k a (owner s - 1) ms sum ≡ failed phase n → blocksFrom s c sum ≡ failed phase n
+        blocks-fails phase n f = slot-then (slot-forward f ∙ failed-ends phase n _) ∙ failed-ends phase n _
+
+        blocks-next : {cur d : List ℕ} {t ma : ℕ} → forwardPage k a (owner s - 1) ms sum ≡ soFar cur t → ma ≡ major b
+            → d ≡ withSlot c s (owner s) 1 (counterBlock ma cur) → blocksFrom s c sum ≡ blocksFrom (s + 1) d t
+        unfolding onward
+        blocks-next {cur} {d} {t} {ma} f m z =
+            slot-first (slot-forward f
+            ∙ ap (λ (x : List ℕ). soFar x t)
+            (ap₂ {C = List ℕ} (λ (o i : ℕ). withSlot c s o 1 (counterBlock i cur)) (sym (filled (owner s) some·)) (sym (m ∙ ap major u))
+            ∙ sym z))
 
     module _ {first c : List ℕ} {sum s : ℕ} (r : Rebuilding first c sum s) (p : s < 4) where
       pub rebuilding-empty : owner s ≡ 0 → Rebuilding first c sum (s + 1)
@@ -146,12 +144,15 @@ module _ (h : ℕ) (k a os : List ℕ) where
       -- the owner's block b lies in cell i, and its minors ms are brought forward in cur
       module _ (some· : owner s ≡ 0 → ⊥) {i : ℕ} {b ms cur : List ℕ} {j t : ℕ} (cell : i ≡ cellOf h (node 0 (owner s - 1)))
           (block : b ≡ cellContent a i) (unpacked : ms ≡ minors b) (f : Forwarding a (64 * (owner s - 1)) ms sum cur j t) where
+        -- the line after those that are brought forward
+        abbrev line : ℕ
+        line = 64 * (owner s - 1) + j
+
         pub rebuilding-fails : {n : ℕ} → n ≡ cond (isOpen k (owner s - 1)) 0 64 → j < n → {v : ℕ}
-            → v ≡ forwarded (getD cur j 0) (phaseByte a (64 * (owner s - 1) + j)) → 128 ≤ v
-            → damaged ≡ blocksFrom 0 first 0
+            → v ≡ forwarded (getD cur j 0) (phaseByte a line) → 128 ≤ v → blocksFrom 0 first 0 ≡ failed (phaseByte a line) line
         rebuilding-fails bound q e z =
-            sym (r .rest ∙ blocks-damaged s p c sum some· (block ∙ ap (cellContent a) cell) unpacked
-            (page-fails k a (owner s - 1) ms sum f bound q e z))
+            r .rest ∙ blocks-fails s p c sum some· (block ∙ ap (cellContent a) cell) unpacked (phaseByte a line) line
+            (page-fails k a (owner s - 1) ms sum f bound q e z)
 
         pub rebuilding-next : {n : ℕ} → n ≡ cond (isOpen k (owner s - 1)) 0 64 → j ≤ n → n ≤ j → j ≤ 64 → {ma : ℕ} {d : List ℕ}
             → ma ≡ major b
@@ -162,5 +163,5 @@ module _ (h : ℕ) (k a os : List ℕ) where
               few = omega (arith, r .few, f .least);
               full = l ∙ r .full;
               rest = r .rest ∙ blocks-next s p c sum some· (block ∙ ap (cellContent a) cell) unpacked
-                  (page-all k a (owner s - 1) ms sum f bound q all) (forwarding-sum a (64 * (owner s - 1)) ms sum f) m e;
+                  (page-all k a (owner s - 1) ms sum f bound q all) m e;
             }

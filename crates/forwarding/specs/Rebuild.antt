@@ -6,15 +6,16 @@ use Prim.Native.Nat.{ℕ, suc, _<_}
 use lib.ListN.{getD}
 use Rattle.memory_map.specs.Map.{slots}
 use Rattle.slot_map.specs.Slots.{belongs}
-use Rattle.calls.specs.Recovery.{Rebuilt, rebuilt, damaged}
+use Rattle.calls.specs.Recovery.{Forwarded, soFar, badPhase, badMinor}
 use Rattle.forwarding.specs.declared.Counters.{Counters}
-use Rattle.forwarding.specs.declared.Counters.the-variants.{Damaged, Sum}
+use Rattle.forwarding.specs.declared.Counters.the-variants.{Sum, BadPhase, BadMinor}
 
 -- each owner, an index + 1, belongs to its slot
 pub record Placed (h : ℕ) (os : List ℕ) : Type 0 where
   pub belong : (s i : ℕ) → s < slots h → getD os s 0 ≡ suc i → belongs h s (suc i) ≡ true
 
 -- the counter slots in the cache c, by what is told of them
-unfoldable pub counted : Counters → List ℕ → Rebuilt
-counted Damaged c = damaged
-counted (Sum n) c = rebuilt c n
+unfoldable pub counted : Counters → List ℕ → Forwarded
+counted (Sum n) c = soFar c n
+counted (BadPhase n) c = badPhase n
+counted (BadMinor n) c = badMinor n

@@ -2,24 +2,28 @@
 ghost use mathlib.Core.Path.{_≡_};
 ghost use mathlib.Core.Bool.{cond};
 ghost use Prim.Native.Nat.{ℕ, _+_, _*_, _<_, _≤_};
+ghost use lib.Dec.{leb};
 ghost use lib.ListN.{length, getD, take};
-ghost use Rattle.counter.specs.Counter.{counterBlock, forward, mayForward};
+ghost use Rattle.counter.specs.Counter.{counterBlock, forward};
 ghost use Rattle.control.specs.Control.{controlLength, isOpen};
 ghost use Rattle.cache.specs.Cache.{withSlot};
 ghost use Rattle.node.specs.Sized.{Sized};
 ghost use Rattle.calls.specs.Recovery.{rebuildBlocks};
 ghost use Rattle.forwarding.specs.Rebuild.{Placed, counted};
+ghost use Rattle.forwarding.specs.declared.Counters.the-variants.{BadPhase, BadMinor};
 
-// What bringing the counters forward gives: the sum of the steps, or that a line's phase or minor is out of range.
+// What bringing the counters forward gives: the sum of the steps, or the line that ends it, by a phase over 3 or by a minor
+// past 127.
 pub enum Counters {
-    Damaged,
     Sum(u64),
+    BadPhase(u64),
+    BadMinor(u64),
 }
 
-// A minor brought forward to a phase: 255 where it may not be.
+// A minor brought forward to a phase: 255 where the phase is over 3 or the minor would be past 127.
 fn forwarded(minor: u8, phase: u8) -> u8
     requires { ⌜ minor < 128 ⌝ }
-    ensures { λ r. ⌜ r ≡ cond (mayForward minor phase) (forward minor phase) 255 ⌝ }
+    ensures { λ r. ⌜ r ≡ cond (leb phase 3) (cond (leb (forward minor phase) 127) (forward minor phase) 255) 255 ⌝ }
 {
     if 3 < phase {
         return 255;
@@ -29,6 +33,16 @@ fn forwarded(minor: u8, phase: u8) -> u8
         return 255;
     }
     new as u8
+}
+
+// What ends it at a line that fails: its phase is looked at first.
+fn failure(phase: u8, line: u64) -> Counters
+    ensures { λ r. ⌜ r ≡ cond (leb phase 3) (BadMinor line) (BadPhase line) ⌝ }
+{
+    if 3 < phase {
+        return Counters::BadPhase(line);
+    }
+    Counters::BadMinor(line)
 }
 
 // How many lines of a page are brought forward: all, or none where the page is open.
@@ -68,6 +82,8 @@ pub fn rebuild_counters(
         ≡ rebuildBlocks h (now (control .entry)) (now (array .entry)) 0 (take 4 owners) (now (image .entry)) 0 ⌝ }
 {
     let mut sum: u64 = 0;
+    let mut bad: u8 = 0;
+    let mut line: u64 = 0;
     let mut s = 0;
     'slots: while s < 4 {
         let owner = owners[s] as usize;
@@ -80,8 +96,11 @@ pub fn rebuild_counters(
             let mut j = 0;
             while j < n {
                 let minor = minors[j];
-                let new = forwarded(minor, array[72 * (64 * page + j) + 64]);
+                let phase = array[72 * (64 * page + j) + 64];
+                let new = forwarded(minor, phase);
                 if 128 <= new {
+                    bad = phase;
+                    line = (64 * page + j) as u64;
                     break 'slots;
                 }
                 minors[j] = new;
@@ -93,7 +112,7 @@ pub fn rebuild_counters(
         s += 1;
     }
     if s < 4 {
-        return Counters::Damaged;
+        return failure(bad, line);
     }
     Counters::Sum(sum)
 }

@@ -2,9 +2,8 @@
 -- listed blocks forward to its counts, the rebuilt cache gives every block and node of that tree. Assumes nothing.
 use mathlib.Core.Path.{_≡_, refl, sym, ap, ap₂, _∙_, subst}
 use mathlib.Core.Logic.{_⊎_, inl, inr}
-use mathlib.Core.Bool.{Bool, true, false, _&&_, cond, false≢true}
-use mathlib.Core.List.{List, [], _∷_}
-use mathlib.Core.Option.{Option, none, some}
+use mathlib.Core.Bool.{Bool, true, false, cond, false≢true}
+use mathlib.Core.List.{List, [], _∷_, _++_, append-nil, append-assoc}
 use Prim.Native.Nat.{ℕ, zero, suc, _+_, _-_, _*_, _/_, _^_, _≤_, _<_}
 use native.Mathlib.Nat.{le-refl, add-zero}
 use native.Mathlib.Omega.{arith}
@@ -15,7 +14,7 @@ use Rattle.memory_map.specs.Map.{pageOf, pages, lines, nodes, slots, arrayLengt
 use Rattle.memory_map.proofs.Laws.{nodes-small, nodes-below, nodes-bottom, nodes-some}
 use Rattle.slot_map.specs.Slots.{cacheLength, slotOf, levelOf}
 use Rattle.slot_map.proofs.Laws.{slot-within, level-slot, level-low, level-high, level-within, belongs-node}
-use Rattle.counter.specs.Counter.{major, minors, minor, counterBlock, phaseOf, forward, mayForward}
+use Rattle.counter.specs.Counter.{major, minors, minor, counterBlock, phaseOf}
 use Rattle.counter.proofs.Laws.{length-minors, forward-reaches}
 use Rattle.cache.specs.Cache.{owner, dirty, content, shadowOwner, shadowOwners, withSlot}
 use Rattle.cache.specs.Cache.{badSlot, emptyCache, from, holds, current}
@@ -23,12 +22,13 @@ use Rattle.cache.proofs.Laws.{Owned, owned-same, Formed, not-bad, length-with, 
 use Rattle.cache.proofs.Laws.{content-same, owner-other, dirty-other, content-other, length-empty, owner-empty}
 use Rattle.cache.proofs.Laws.{dirty-empty, holds-owner, owner-holds, current-cached, current-missing}
 use Rattle.answer.specs.declared.Answer.the-variants.{Done}
-use Rattle.control.specs.Control.{depth, root}
+use Rattle.control.specs.Control.{depth, root, isOpen}
 use Rattle.calls.specs.Call.{Module, Called}
-use Rattle.calls.specs.Recovery.{phaseByte, forwardFrom, forwardPage, total, Rebuilt, rebuilt, damaged}
+use Rattle.calls.specs.Recovery.{phaseByte, Forwarded, soFar, onward, forwardStep, forwardFrom, forwardPage}
 use Rattle.calls.specs.Recovery.{rebuildBlock, rebuildSlot, rebuildBlocks, rebuildNode, rebuildNodes, recoverRoot}
 use Rattle.calls.specs.Recovery.{recoverRebuilt, recoverShadow, recoverMedia, refuseAfter}
 use Rattle.calls.specs.Format.{countsFrom, freshNode}
+use Rattle.calls.specs.History.{total}
 use Rattle.calls.specs.Path.{childTags}
 use Rattle.call_laws.proofs.Tags.{tags-agree}
 use Rattle.history_laws.proofs.Setting.{Setting, Tree, Small, treeNode, treeRoot, nodeIn, tagOf, Opening, opens, sealed, Section}
@@ -53,36 +53,37 @@ module _ (S : Setting) (T : Tree) (o : Opening) where
 
 -- ---- minors brought forward
 
-may-forward : (s p : ℕ) → p ≤ 3 → forward s p ≤ 127 → mayForward s p ≡ true
-unfolding mayForward
-may-forward s p q r = ap₂ (λ (a b : Bool). a && b) (le-leb p 3 q) (le-leb (forward s p) 127 r)
-
--- a minor s of line n and those after it
-brought : Bool → ℕ → Option (List ℕ) → Option (List ℕ)
-brought b x r = cond b (elim r as (λ z. Option (List ℕ)) [ none ↦ none | some ts ↦ some (x ∷ ts) ]) none
-
 module _ (a : List ℕ) {T : Tree} (small : Small T) where
   open Tree T using (count)
 
-  forward-counts : (n : ℕ) (ss : List ℕ) → ((k : ℕ) → k < length ss → (getD ss k 0 ≤ count (n + k)) × (count (n + k) ≤ getD ss k 0 + 3))
-      → ((k : ℕ) → k < length ss → phaseByte a (n + k) ≡ phaseOf (count (n + k)))
-      → forwardFrom a n ss ≡ some (countsFrom count n (length ss))
-  unfolding forwardFrom countsFrom brought
-  forward-counts n [] near phases = refl
-  forward-counts n (s ∷ ss) near phases =
-      let here : n + 0 ≡ n = omega arith in
-      let phase : phaseByte a n ≡ phaseOf (count n) = subst (λ (k : ℕ). phaseByte a k ≡ phaseOf (count k)) here (phases 0 (omega arith)) in
-      let reach : forward s (phaseByte a n) ≡ count n =
-      ap (forward s) phase
-      ∙ forward-reaches s (count n) (subst (λ (k : ℕ). s ≤ count k) here (near 0 (omega arith) .0))
-      (subst (λ (k : ℕ). count k ≤ s + 3) here (near 0 (omega arith) .1)) in
-      let may : mayForward s (phaseByte a n) ≡ true = may-forward s (phaseByte a n) (omega arith) (omega (arith, small .minor n)) in
-      let rest : forwardFrom a (suc n) ss ≡ some (countsFrom count (suc n) (length ss)) =
-      forward-counts (suc n) ss
-      (λ k q. subst (λ (j : ℕ). (getD ss k 0 ≤ count j) × (count j ≤ getD ss k 0 + 3)) (omega arith) (near (suc k) (omega arith)))
-      (λ k q. subst (λ (j : ℕ). phaseByte a j ≡ phaseOf (count j)) (omega arith) (phases (suc k) (omega arith))) in
-      ap₂ (λ (b : Bool) (r : Option (List ℕ)). brought b (forward s (phaseByte a n)) r) may rest
-      ∙ ap (λ (x : ℕ). some (x ∷ countsFrom count (suc n) (length ss))) reach
+  -- a minor that the phase of line n brings forward to its count
+  record Reaches (n s : ℕ) : Type 0 where
+    behind : s ≤ count n
+    near : count n ≤ s + 3
+    phase : phaseByte a n ≡ phaseOf (count n)
+
+  step-counts : (n s : ℕ) → Reaches n s → (ms : List ℕ) (sum : ℕ)
+      → forwardStep n s (phaseByte a n) ms sum ≡ soFar (ms ++ (count n ∷ [])) (sum + (count n - s))
+  unfolding forwardStep
+  step-counts n s r ms sum =
+      let reach = forward-reaches s (count n) (r .behind) (r .near) in
+      rw (r .phase, reach, le-leb (phaseOf (count n)) 3 (omega arith), le-leb (count n) 127 (omega (arith, small .minor n)))
+
+  -- the lines from n on brought forward to their counts, and what these are above the minors
+  forward-counts : (n : ℕ) (ss : List ℕ) → ((k : ℕ) → k < length ss → Reaches (n + k) (getD ss k 0)) → (ms : List ℕ) (sum : ℕ)
+      → (total ss ≤ total (countsFrom count n (length ss)))
+      × (forwardFrom a n ss ms sum
+      ≡ soFar (ms ++ countsFrom count n (length ss)) (sum + (total (countsFrom count n (length ss)) - total ss)))
+  unfolding forwardFrom onward countsFrom total
+  forward-counts n [] reaches ms sum = (le-refl 0, ap₂ soFar (sym (append-nil ms)) (omega arith))
+  forward-counts n (s ∷ ss) reaches ms sum =
+      let here : Reaches n s = subst (λ (k : ℕ). Reaches k s) (omega arith) (reaches 0 (omega arith)) in
+      let rest = forward-counts (suc n) ss
+      (λ k q. subst (λ (j : ℕ). Reaches j (getD ss k 0)) (omega arith) (reaches (suc k) (omega arith)))
+      (ms ++ (count n ∷ [])) (sum + (count n - s)) in
+      let stepped = ap (λ (r : Forwarded). onward r (forwardFrom a (suc n) ss)) (step-counts n s here ms sum) in
+      let joined = append-assoc ms (count n ∷ []) (countsFrom count (suc n) (length ss)) in
+      (omega (arith, here .behind, rest .0), stepped ∙ rest .1 ∙ ap₂ soFar joined (omega (arith, here .behind, rest .0)))
 
 -- ---- sums slot by slot
 
@@ -113,35 +114,41 @@ module _ {S : Setting} {T : Tree} {o : Opening} {a : List ℕ} (m : Durable S T 
       ∙ ap (λ (U : Tree). phaseOf (U .count (64 * p + k)))
       (sealed-tree o T (64 * p + k) (not-done o (64 * p + k) (subst (λ (i : ℕ). opens o i ≡ false) page e)))
 
-  forwarded : {k : List ℕ} → Section o k → (p : ℕ) → p < pages h
-      → forwardPage k a p (minors (block p)) ≡ some (countsFrom count (64 * p) 64)
-  unfolding forwardPage
-  forwarded {k} said p q =
-      ap (λ (b : Bool). cond b (some (minors (block p))) (forwardFrom a (64 * p) (minors (block p)))) (section-open said p)
-      ∙ go (opens o p) refl
-    where
-      go : (b : Bool) → opens o p ≡ b
-          → cond b (some (minors (block p))) (forwardFrom a (64 * p) (minors (block p))) ≡ some (countsFrom count (64 * p) 64)
-      go true e = ap some (ap minors (m .open-block p q e) ∙ fresh-minors S (m .small) p)
-      go false e =
-          let size = length-minors (block p) in
-          forward-counts a (m .small) (64 * p) (minors (block p))
-          (λ k r. (m .behind p k q (omega arith), omega (arith, m .near p k q (omega arith)))) (λ k r. phases-of p q e k (omega arith))
-          ∙ ap (λ (n : ℕ). some (countsFrom count (64 * p) n)) size
-
   -- what the block of a page adds to the sum brought forward
   unfoldable pub pageSum : ℕ → ℕ
   pageSum p = total (countsFrom count (64 * p) 64) - total (minors (block p))
 
+  forwarded : {k : List ℕ} → Section o k → (p sum : ℕ) → p < pages h
+      → forwardPage k a p (minors (block p)) sum ≡ soFar (countsFrom count (64 * p) 64) (sum + pageSum p)
+  unfolding forwardPage pageSum
+  forwarded {k} said p sum q = go (isOpen k p) (sym (section-open said p))
+    where
+      ss : List ℕ
+      ss = minors (block p)
+
+      go : (b : Bool) → opens o p ≡ b
+          → cond b (soFar ss sum) (forwardFrom a (64 * p) ss [] sum) ≡ soFar (countsFrom count (64 * p) 64) (sum + pageSum p)
+      go true e =
+          let same = ap minors (m .open-block p q e) ∙ fresh-minors S (m .small) p in
+          ap₂ soFar same (omega (arith, ap total same))
+      go false e =
+          forward-counts a (m .small) (64 * p) ss
+          (λ j r. let inside : j < 64 = omega (arith, length-minors (block p)) in
+          record {
+            behind = m .behind p j q inside;
+            near = omega (arith, m .near p j q inside);
+            phase = phases-of p q e j inside;
+          }) [] sum .1
+          ∙ ap (λ (n : ℕ). soFar (countsFrom count (64 * p) n) (sum + (total (countsFrom count (64 * p) n) - total ss)))
+          (length-minors (block p))
+
   block-built : {k : List ℕ} → Section o k → (c : List ℕ) (sum s p : ℕ) → p < pages h
-      → rebuildBlock h k a c sum s p ≡ rebuilt (withSlot c s (suc p) 1 (treeNode S T 0 p)) (sum + pageSum p)
-  unfolding rebuildBlock freshNode pageSum
+      → rebuildBlock h k a c sum s p ≡ soFar (withSlot c s (suc p) 1 (treeNode S T 0 p)) (sum + pageSum p)
+  unfolding rebuildBlock onward freshNode
   block-built said c sum s p q =
-      ap (λ (r : Option (List ℕ)). elim r as (λ z. Rebuilt) [
-        | none ↦ damaged
-        | some ms ↦ rebuilt (withSlot c s (suc p) 1 (counterBlock (major (block p)) ms)) (sum + (total ms - total (minors (block p))))
-      ]) (forwarded said p q)
-      ∙ ap (λ (k : ℕ). rebuilt (withSlot c s (suc p) 1 (counterBlock k (countsFrom count (64 * p) 64))) (sum + pageSum p)) (m .majors p q)
+      ap (λ (r : Forwarded). onward r (λ ms t. soFar (withSlot c s (suc p) 1 (counterBlock (major (block p)) ms)) t))
+      (forwarded said p sum q)
+      ∙ ap (λ (k : ℕ). soFar (withSlot c s (suc p) 1 (counterBlock k (countsFrom count (64 * p) 64))) (sum + pageSum p)) (m .majors p q)
 
   -- ---- the cache, slot by slot
 
@@ -333,12 +340,12 @@ module _ {S : Setting} {T : Tree} {o : Opening} {a : List ℕ} (m : Durable S T 
     pub record BlocksFrom (n s : ℕ) (c : List ℕ) (sum : ℕ) : Type 0 where
       pub cache : List ℕ
       pub told : ℕ
-      pub same : rebuildBlocks h k a s (listing s n) c sum ≡ rebuilt cache told
+      pub same : rebuildBlocks h k a s (listing s n) c sum ≡ soFar cache told
       pub upto : Upto (s + n) cache
       pub adds : told ≡ sum + total (countsFrom (λ t. added (shadowOwner h a t)) s n)
 
     blocks-from : (n s : ℕ) (c : List ℕ) (sum : ℕ) → s + n ≤ 4 → Upto s c → BlocksFrom n s c sum
-    unfolding rebuildBlocks rebuildSlot from slots
+    unfolding rebuildBlocks rebuildSlot onward from slots
     blocks-from zero s c sum p u =
         record {
           cache = c;
@@ -349,16 +356,13 @@ module _ {S : Setting} {T : Tree} {o : Opening} {a : List ℕ} (m : Durable S T 
         }
     blocks-from (suc n) s c sum p u = go (λ d t v. blocks-from n (suc s) d t (omega arith) v) (shadowOwner h a s) refl
       where
-        after : Rebuilt → Rebuilt
-        after r = elim r as (λ z. Rebuilt) [ damaged ↦ damaged | rebuilt d t ↦ rebuildBlocks h k a (suc s) (listing (suc s) n) d t ]
-
-        step : {d : List ℕ} {t : ℕ} → rebuildSlot h k a c sum s (shadowOwner h a s) ≡ rebuilt d t → t ≡ sum + added (shadowOwner h a s)
+        step : {d : List ℕ} {t : ℕ} → rebuildSlot h k a c sum s (shadowOwner h a s) ≡ soFar d t → t ≡ sum + added (shadowOwner h a s)
             → BlocksFrom n (suc s) d t → BlocksFrom (suc n) s c sum
         step e w r =
             record {
               cache = r .cache;
               told = r .told;
-              same = ap after e ∙ r .same;
+              same = ap (λ (x : Forwarded). onward x (rebuildBlocks h k a (suc s) (listing (suc s) n))) e ∙ r .same;
               upto = subst (λ (k : ℕ). Upto k (r .cache)) (omega arith) (r .upto);
               adds = adds-step (λ t. added (shadowOwner h a t)) s n sum _ (r .told) w (r .adds);
             }

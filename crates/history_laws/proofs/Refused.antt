@@ -24,8 +24,8 @@ use Rattle.calls.specs.Read.{blankText, answered, refusedRead, lineMinor, sideO
 use Rattle.calls.specs.Write.{writeStores, writtenCache, writeLoaded, writePath, writeJudged, write}
 use Rattle.calls.specs.Turn.{turnRefusal, blockOf, turnPlaces, badLine, turnBatches, storesFor, turnedCache}
 use Rattle.calls.specs.Turn.{turnChecked, turnLoaded, turnPath, turnJudged, turn, pagePath}
-use Rattle.calls.specs.Recovery.{refuseAfter, Rebuilt, rebuilt, damaged, rebuildBlocks, rebuildNodes, recoveryRefusal}
-use Rattle.calls.specs.Recovery.{recoverRoot, recoverRebuilt, recoverShadow, recoverMedia, recoverJudged, recover}
+use Rattle.calls.specs.Recovery.{refuseAfter, Forwarded, soFar, badPhase, badMinor, refusalOf, rebuildBlocks, rebuildNodes}
+use Rattle.calls.specs.Recovery.{recoveryRefusal, recoverRoot, recoverRebuilt, recoverShadow, recoverMedia, recoverJudged, recover}
 use Rattle.history_laws.proofs.Outcome.{no-elements, madeStores, cutAmong, cases}
 
 -- ---- answers apart
@@ -159,10 +159,11 @@ module _ (keys : List ℕ) (k : ℕ) (x : Module) where
       go true = record { told = λ i j p q e. absurd (done-not e); same = λ i j p q e. absurd (done-not e) }
       go false = left-refused k x 29 0
 
-  left-rebuilt : (os : List ℕ) (r : Rebuilt) → Left k x (recoverRebuilt keys k x os r)
+  left-rebuilt : (os : List ℕ) (r : Forwarded) → Left k x (recoverRebuilt keys k x os r)
   unfolding recoverRebuilt
-  left-rebuilt os damaged = left-refused k x 28 0
-  left-rebuilt os (rebuilt d sum) = left-root sum (rebuildNodes h keys (x .array) 4 (drop 4 os) d)
+  left-rebuilt os (badPhase n) = left-refused k x (refusalOf (badPhase n)) n
+  left-rebuilt os (badMinor n) = left-refused k x (refusalOf (badMinor n)) n
+  left-rebuilt os (soFar d sum) = left-root sum (rebuildNodes h keys (x .array) 4 (drop 4 os) d)
 
   left-shadow : (os : List ℕ) (r : Found) → Left k x (recoverShadow keys k x os r)
   unfolding recoverShadow

@@ -1,5 +1,5 @@
 -- How recovery ends. Assumes nothing.
-use mathlib.Core.Path.{_≡_, refl, sym, ap, ap₂, _∙_}
+use mathlib.Core.Path.{_≡_, refl, sym, ap, ap₂, _∙_, subst}
 use mathlib.Core.Bool.{Bool, true, false, cond}
 use mathlib.Core.List.{List}
 use Prim.Native.Nat.{ℕ, zero, suc, min, _+_, _-_, _≤_, _<_}
@@ -12,7 +12,8 @@ use borrow.Author.Tests.{eq-eqb, ne-eqb, le-ltb}
 use Rattle.memory_map.specs.Map.{slots}
 use Rattle.slot_map.specs.Slots.{cacheLength}
 use Rattle.tag.specs.Tag.{nodeTag}
-use Rattle.answer.specs.declared.Answer.the-variants.{Done, Cut}
+use Rattle.answer.specs.declared.Answer.{Answer}
+use Rattle.answer.specs.declared.Answer.the-variants.{Done, Cut, Refused}
 use Rattle.control.specs.Control.{depth, root, count, queue}
 use Rattle.control.proofs.Laws.{length-places}
 use Rattle.cache.specs.declared.Found.{Found}
@@ -21,36 +22,47 @@ use Rattle.cache.specs.Cache.{emptyCache, shadowOwner, shadowOwners, badSlot, c
 use Rattle.cache.proofs.Laws.{owned, getD-from}
 use Rattle.journal.specs.Journal.{Store, Media, media, storeAll, pendingStores, made, isCut, Stored}
 use Rattle.journal.proofs.Laws.{length-finish, pending-some, pending-none, less-cut}
+use Rattle.node.specs.Sized.{Sized}
 use Rattle.calls.specs.Call.{Module, Called, buffers, ended, refuse, mediaOf, withMedia}
-use Rattle.calls.specs.Recovery.{Rebuilt, rebuilt, damaged, rebuildBlocks, rebuildNodes, refuseAfter, recoveryRefusal, recover}
+use Rattle.calls.specs.Recovery.{soFar, rebuildBlocks, rebuildNodes, refuseAfter, recoveryRefusal, recover}
 use Rattle.calls.specs.Recovery.{recoverRoot, recoverRebuilt, recoverShadow, recoverMedia, recoverJudged}
 use Rattle.forwarding.specs.Rebuild.{Placed}
 
 -- ---- the cache rebuilt
 
+-- what is asked at the depth n that was read
+module _ (h : ℕ) {n : ℕ} (same : n ≡ h) where
+  pub sized-as : (a i j : List ℕ) → Sized h a i → length j ≡ length i → Sized n a j
+  sized-as a i j z e =
+      subst (λ (k : ℕ). Sized k a j) (sym same) (record { deep = z .deep; flat = z .flat; array = z .array; cache = e ∙ z .cache })
+
+  pub placed-as : (os : List ℕ) → Placed h os → Placed n os
+  placed-as os = subst (λ (k : ℕ). Placed k os) (sym same)
+
+-- a refusal, as the code tells it
+pub refused-as : (m : Module) {k n x : ℕ} {r : Answer} → r ≡ Refused n k x 0
+    → ended r (m .array) (m .control) (m .cache) ≡ refuseAfter k m n x
+refused-as m e = ap (λ (r : Answer). ended r (m .array) (m .control) (m .cache)) e
+
 module _ (keys : List ℕ) (k : ℕ) (m : Module) (os : List ℕ) where
   abbrev h : ℕ
   h = depth (m .control)
 
-  pub ends-damaged : {r : Rebuilt} → damaged ≡ r → refuseAfter k m 28 0 ≡ recoverRebuilt keys k m os r
-  unfolding recoverRebuilt
-  ends-damaged e = ap (recoverRebuilt keys k m os) e
-
   -- d with the counters rebuilt, c with the nodes too; t is the top's tag, q the root
-  module _ {d c : List ℕ} {sum : ℕ} {r : Rebuilt} (counters : rebuilt d sum ≡ r)
-      (nodes : c ≡ rebuildNodes h keys (m .array) 4 (drop 4 os) d) {t q : ℕ}
+  module _ (d : List ℕ) {c : List ℕ} (sum : ℕ) (nodes : c ≡ rebuildNodes h keys (m .array) 4 (drop 4 os) d) {t q : ℕ}
       (tag : t ≡ nodeTag keys (current h (m .array) c h 0) h 0) (right : q ≡ root (m .control)) where
     by-root : (b : Bool) → eqb t q ≡ b
-        → cond b (ended (Done k sum) (m .array) (m .control) c) (refuseAfter k m 29 0) ≡ recoverRebuilt keys k m os r
+        → cond b (ended (Done k sum) (m .array) (m .control) c) (refuseAfter k m 29 0) ≡ recoverRebuilt keys k m os (soFar d sum)
     unfolding recoverRebuilt recoverRoot
     by-root b e =
         ap (λ (x : Bool). cond x (ended (Done k sum) (m .array) (m .control) c) (refuseAfter k m 29 0)) (sym e ∙ ap₂ eqb tag right)
-        ∙ ap (recoverRoot keys k m sum) nodes ∙ ap (recoverRebuilt keys k m os) counters
+        ∙ ap (recoverRoot keys k m sum) nodes
 
-    pub ends-differs : (t ≡ q → ⊥) → refuseAfter k m 29 0 ≡ recoverRebuilt keys k m os r
+    pub ends-differs : (t ≡ q → ⊥) → refuseAfter k m 29 0 ≡ recoverRebuilt keys k m os (soFar d sum)
     ends-differs p = by-root false (ne-eqb t q p)
 
-    pub ends-done : t ≡ q → {e : List ℕ} → e ≡ c → ended (Done k sum) (m .array) (m .control) e ≡ recoverRebuilt keys k m os r
+    pub ends-done : t ≡ q → {e : List ℕ} → e ≡ c
+        → ended (Done k sum) (m .array) (m .control) e ≡ recoverRebuilt keys k m os (soFar d sum)
     ends-done p f = ap (ended (Done k sum) (m .array) (m .control)) f ∙ by-root true (eq-eqb t q p)
 
 -- ---- the shadow

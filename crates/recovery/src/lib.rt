@@ -2,16 +2,55 @@
 ghost use mathlib.Core.Path.{_≡_};
 ghost use lib.ListN.{length, take};
 ghost use Rattle.memory_map.specs.Map.{slots as slotsOf};
+ghost use Rattle.answer.specs.declared.Answer.the-variants.{Refused};
 ghost use Rattle.control.specs.Control.{controlLength, depth as depthOf};
 ghost use Rattle.node.specs.Sized.{Sized};
 ghost use Rattle.calls.specs.Call.{buffers, ended};
-ghost use Rattle.calls.specs.Recovery.{rebuildBlocks, recoverRebuilt, recoverMedia, recover as recoverOf};
-ghost use Rattle.forwarding.specs.Rebuild.{Placed};
+ghost use Rattle.calls.specs.Recovery.{soFar, rebuildBlocks, recoverRebuilt, recoverMedia, recover as recoverOf};
+ghost use Rattle.recovery.specs.Lent.{Lent};
 use answer::Answer;
 use cache::Found;
 use forwarding::Counters;
 
-// Rebuilds the cache in an image that is empty, from the owners that the shadow lists. Only a done recovery changes the cache.
+// A refusal after the pending stores, with the first number of its place.
+fn refuse_after(stores: u64, number: u64, first: u64) -> Answer
+    ensures { λ r. ⌜ r ≡ Refused number stores first 0 ⌝ }
+{
+    Answer::Refused {
+        number,
+        stores,
+        first,
+        second: 0,
+    }
+}
+
+// Rebuilds the nodes over the counters in an image, and holds the top against the root. Only a done recovery changes the cache.
+fn rebuild_tree(
+    h: usize,
+    keys: &[u8],
+    control: &[u8],
+    array: &[u8],
+    owners: [u64; 10],
+    stores: u64,
+    sum: u64,
+    image: &mut [u8],
+    cache: &mut [u8],
+) -> Answer
+    requires { ⌜ (h ≡ depthOf (now control)) × Lent (now keys) (now control) (now array) (now image) (now cache) owners ⌝ }
+    ensures { λ r. ⌜ ended r (now (array .entry)) (now (control .entry)) (now (cache .exit))
+        ≡ recoverRebuilt (now (keys .entry)) stores (buffers (now (array .entry)) (now (control .entry)) (now (cache .entry)))
+        (take (slotsOf (depthOf (now (control .entry)))) owners) (soFar (now (image .entry)) sum) ⌝ }
+{
+    rebuilding::rebuild_nodes(h, keys, array, owners, image);
+    if rebuilding::top_tag(h, keys, array, image) != control::root(control) {
+        return refuse_after(stores, 29, 0);
+    }
+    let n = cache.len();
+    copying::copy(cache, 0, image, 0, n);
+    Answer::Done { stores, sum }
+}
+
+// Rebuilds the cache in an image that is empty, from the owners that the shadow lists.
 fn rebuild(
     keys: &[u8],
     control: &[u8],
@@ -21,9 +60,7 @@ fn rebuild(
     image: &mut [u8],
     cache: &mut [u8],
 ) -> Answer
-    requires { ⌜ (length (now keys) ≡ 48) × ((length (now control) ≡ controlLength)
-        × (Sized (depthOf (now control)) (now array) (now image) × (length (now cache) ≡ length (now image)))) ⌝ }
-    requires { ⌜ Placed (depthOf (now control)) owners ⌝ }
+    requires { ⌜ Lent (now keys) (now control) (now array) (now image) (now cache) owners ⌝ }
     ensures { λ r. ⌜ ended r (now (array .entry)) (now (control .entry)) (now (cache .exit))
         ≡ recoverRebuilt (now (keys .entry)) stores (buffers (now (array .entry)) (now (control .entry)) (now (cache .entry)))
         (take (slotsOf (depthOf (now (control .entry)))) owners)
@@ -32,26 +69,13 @@ fn rebuild(
 {
     let h = control::depth(control);
     let counters = forwarding::rebuild_counters(h, control, array, owners, image);
-    let Counters::Sum(sum) = counters else {
-        return Answer::Refused {
-            number: 28,
-            stores,
-            first: 0,
-            second: 0,
-        };
-    };
-    rebuilding::rebuild_nodes(h, keys, array, owners, image);
-    if rebuilding::top_tag(h, keys, array, image) != control::root(control) {
-        return Answer::Refused {
-            number: 29,
-            stores,
-            first: 0,
-            second: 0,
-        };
+    match counters {
+        Counters::Sum(sum) => {
+            rebuild_tree(h, keys, control, array, owners, stores, sum, image, cache)
+        }
+        Counters::BadPhase(line) => refuse_after(stores, 28, line),
+        Counters::BadMinor(line) => refuse_after(stores, 32, line),
     }
-    let n = cache.len();
-    copying::copy(cache, 0, image, 0, n);
-    Answer::Done { stores, sum }
 }
 
 // What follows the pending stores.
@@ -65,12 +89,7 @@ fn recover_media(keys: &[u8], control: &[u8], array: &[u8], cache: &mut [u8], st
     let owners = shadow::shadow_owners(h, array);
     let bad = shadow::bad_slot(h, owners);
     if let Found::At(s) = bad {
-        return Answer::Refused {
-            number: 27,
-            stores,
-            first: s as u64,
-            second: 0,
-        };
+        return refuse_after(stores, 27, s as u64);
     }
     let mut image = [0u8; 730];
     let n = cache.len();

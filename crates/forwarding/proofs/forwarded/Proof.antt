@@ -11,7 +11,9 @@ forward-requires : tie.Need-forward-requires
 forward-requires c κs = search needs
 
 returns-2 : tie.Need-returns-2
-returns-2 c = let a = c .before .before .before .args in minor-out (a .minor) (a .phase) (c .before .forward .ensures) (c .if2 .taken)
+returns-2 c =
+    let a = c .before .before .before .args in
+    minor-out (a .minor) (a .phase) (c .before .before .if1 .left) (c .before .forward .ensures) (c .if2 .taken)
 
 cast-result : tie.Need-cast-result
 cast-result c = search needs

@@ -1,5 +1,5 @@
 -- `forwarding::rebuild_counters` goes through the slots, and through the lines of each. Assumes nothing.
-use mathlib.Core.Path.{_≡_, refl, sym, ap, _∙_, subst}
+use mathlib.Core.Path.{_≡_, refl, sym, ap, ap₂, _∙_, subst}
 use mathlib.Core.Logic.{⊎-elim}
 use mathlib.Core.List.{List}
 use Prim.Native.Nat.{ℕ, _+_, _-_, _*_, _≤_, _<_, zero-le}
@@ -16,26 +16,27 @@ use Rattle.control.specs.Control.{isOpen}
 use Rattle.cache.specs.Cache.{cellContent}
 use Rattle.cache.proofs.Laws.{cell-length, slot-room}
 use Rattle.node.proofs.Laws.{cell-room}
-use Rattle.calls.specs.Recovery.{rebuilt}
+use Rattle.calls.specs.Recovery.{Forwarded, soFar}
 use Rattle.forwarding.specs.Rebuild.{counted}
 use Rattle.forwarding.proofs.Forward.{Forwarding, forwarding-none, forwarding-next, forwarded-ge, forwarded-le, few-lines}
+use Rattle.forwarding.proofs.Forward.{failed, failed-told}
 use Rattle.forwarding.proofs.Blocks.{Rebuilding, rebuilding-empty, rebuilding-fails, rebuilding-next, rebuilding-same}
 use Rattle.forwarding.proofs.Blocks.{blocks-end, placed-node, page-lines}
 use Rattle.forwarding.proofs.rebuild_counters.Statement.{statement}
 use Rattle.forwarding.proofs.rebuild_counters.Tie as tie
 
 abbrev Inv-loop : tie.InvT-loop
-Inv-loop h control array image owners sum₀ s owner page block minors₀ n j₀ sum minors j =
+Inv-loop h control array image owners sum₀ bad₀ line₀ s owner page block minors₀ n j₀ sum bad line minors j =
     (j ≤ n) × ((n ≤ 64) × Forwarding array (64 * page) minors₀ sum₀ minors j sum)
 
 abbrev μ-loop : tie.MeasureT-loop
-μ-loop h control array image owners sum₀ s owner page block minors₀ n j₀ sum minors j = n - j
+μ-loop h control array image owners sum₀ bad₀ line₀ s owner page block minors₀ n j₀ sum bad line minors j = n - j
 
 abbrev Inv-slots : tie.InvT-slots
-Inv-slots h control array image₀ owners sum₀ s₀ image sum s = Rebuilding h control array owners image₀ image sum s
+Inv-slots h control array image₀ owners sum₀ bad₀ line₀ s₀ image sum bad line s = Rebuilding h control array owners image₀ image sum s
 
 abbrev μ-slots : tie.MeasureT-slots
-μ-slots h control array image₀ owners sum₀ s₀ image sum s = 4 - s
+μ-slots h control array image₀ owners sum₀ bad₀ line₀ s₀ image sum bad line s = 4 - s
 
 -- what is lent
 abbrev start : tie.At-slots Inv-loop μ-loop Inv-slots μ-slots → tie.Start Inv-loop μ-loop Inv-slots μ-slots
@@ -120,26 +121,32 @@ small : (c : tie.At-loop Inv-loop μ-loop Inv-slots μ-slots)
     getD (start at .args .t4) (at .slots .s) 0 - 1 < 512
 small c = let s = start (slot c .before .before) in index-small (s .args .h) 0 _ (inside (slot c)) (s .pre .1 .0 .flat)
 
-mul-forwarded : tie.Need-mul-forwarded Inv-loop μ-loop Inv-slots μ-slots
-mul-forwarded c = omega (arith, small (c .before))
+mul-phase : tie.Need-mul-phase Inv-loop μ-loop Inv-slots μ-slots
+mul-phase c = omega (arith, small (c .before))
 
-add-forwarded : tie.Need-add-forwarded Inv-loop μ-loop Inv-slots μ-slots
-add-forwarded c = omega (arith, small (c .before))
+add-phase : tie.Need-add-phase Inv-loop μ-loop Inv-slots μ-slots
+add-phase c = omega (arith, small (c .before))
 
-mul-forwarded-2 : tie.Need-mul-forwarded-2 Inv-loop μ-loop Inv-slots μ-slots
-mul-forwarded-2 c = omega (arith, small (c .before))
+mul-phase-2 : tie.Need-mul-phase-2 Inv-loop μ-loop Inv-slots μ-slots
+mul-phase-2 c = omega (arith, small (c .before))
 
-add-forwarded-2 : tie.Need-add-forwarded-2 Inv-loop μ-loop Inv-slots μ-slots
-add-forwarded-2 c = omega (arith, small (c .before))
+add-phase-2 : tie.Need-add-phase-2 Inv-loop μ-loop Inv-slots μ-slots
+add-phase-2 c = omega (arith, small (c .before))
 
-shared-slice-read-forwarded : tie.Need-shared-slice-read-forwarded Inv-loop μ-loop Inv-slots μ-slots
-shared-slice-read-forwarded c =
+shared-slice-read-phase : tie.Need-shared-slice-read-phase Inv-loop μ-loop Inv-slots μ-slots
+shared-slice-read-phase c =
     let at = c .before .before in
     let s = start (slot at .before .before) in
     omega (arith, page-lines (s .args .h) (s .args .array .now) _ (s .pre .1 .0 .array) (inside (slot at)))
 
 forwarded-requires : tie.Need-forwarded-requires Inv-loop μ-loop Inv-slots μ-slots
 forwarded-requires c κs = let at = c .before .before in at .loop .inv .1 .1 .few .at (at .loop .j)
+
+mul-line : tie.Need-mul-line Inv-loop μ-loop Inv-slots μ-slots
+mul-line c = omega (arith, small (c .before .before .before .before))
+
+add-line : tie.Need-add-line Inv-loop μ-loop Inv-slots μ-slots
+add-line c = omega (arith, small (c .before .before .before .before))
 
 -- a line whose minor may be brought forward
 steps : (c : tie.Else2 Inv-loop μ-loop Inv-slots μ-slots)
@@ -229,19 +236,24 @@ slots-again c =
     (rebuilding-empty (a .h) (a .control .now) (a .array .now) (a .t4) (ten at) (at .slots .inv) p (w .0 .left)) (w .1) (w .2))
     (c .if1 .came)
 
+failure-requires : tie.Need-failure-requires Inv-loop μ-loop Inv-slots μ-slots
+failure-requires c κs = search needs
+
 same-length : tie.Need-same-length Inv-loop μ-loop Inv-slots μ-slots
-same-length c = let at = c .before .before in at .slots .inv .full ∙ sym (start at .pre .1 .0 .cache)
+same-length c = let at = c .before .before .before in at .slots .inv .full ∙ sym (start at .pre .1 .0 .cache)
 
 returns : tie.Need-returns Inv-loop μ-loop Inv-slots μ-slots
-unfolding counted
 returns c =
-    let at = c .before .before in
+    let left = c .before .before in
+    let at = left .before in
     let a = start at .args in
     ⊎-elim (λ w. absurd (omega (arith, w .0 .left)))
-    (λ w. rebuilding-fails (a .h) (a .control .now) (a .array .now) (a .t4) (ten at) (at .slots .inv) (w .0 .taken) (w .1 .taken)
+    (λ w. failed-told (left .slots-test .bad) (left .slots-test .line) (at .slots .image) (c .failure .ensures)
+    ∙ ap₂ {C = Forwarded} failed (w .14) (w .15)
+    ∙ sym (rebuilding-fails (a .h) (a .control .now) (a .array .now) (a .t4) (ten at) (at .slots .inv) (w .0 .taken) (w .1 .taken)
     (w .2 .ensures)
-    (w .3 .ensures) (w .5 .ensures) (w .8 .inv .1 .1) (w .7 .ensures) (w .9 .taken) (w .11 .ensures) (w .12 .taken))
-    (c .before .slots-test .came)
+    (w .3 .ensures) (w .5 .ensures) (w .8 .inv .1 .1) (w .7 .ensures) (w .9 .taken) (w .11 .ensures) (w .12 .taken)))
+    (left .slots-test .came)
 
 same-length-2 : tie.Need-same-length-2 Inv-loop μ-loop Inv-slots μ-slots
 same-length-2 c = let at = c .before .before in at .slots .inv .full ∙ sym (start at .pre .1 .0 .cache)
@@ -252,7 +264,7 @@ returns-2 c =
     let at = c .before .before in
     let a = start at .args in
     ⊎-elim
-    (λ w. ap (λ (n : ℕ). rebuilt (at .slots .image) n) (w .1)
+    (λ w. ap (λ (n : ℕ). soFar (at .slots .image) n) (w .1)
     ∙ sym (at .slots .inv .rest
     ∙ blocks-end (a .h) (a .control .now) (a .array .now) (a .t4) (at .slots .s) (w .0 .left) (at .slots .image) (at .slots .sum)))
     (λ w. absurd (omega (arith, w .0 .taken)))
@@ -277,12 +289,14 @@ rebuild-counters-spec =
     lines-read-requires
     loop-holds
     array-read-minor
-    mul-forwarded
-    add-forwarded
-    mul-forwarded-2
-    add-forwarded-2
-    shared-slice-read-forwarded
+    mul-phase
+    add-phase
+    mul-phase-2
+    add-phase-2
+    shared-slice-read-phase
     forwarded-requires
+    mul-line
+    add-line
     array-write-minors
     sub-sum
     cast-sum
@@ -296,6 +310,7 @@ rebuild-counters-spec =
     add-s
     slots-less
     slots-again
+    failure-requires
     same-length
     returns
     same-length-2

@@ -11,7 +11,7 @@ use Rattle.control.specs.Control.{depth}
 use Rattle.cache.specs.Cache.{emptyCache, shadowOwners, badSlot}
 use Rattle.cache.proofs.Laws.{length-empty}
 use Rattle.calls.specs.Call.{Module, buffers}
-use Rattle.recovery.proofs.Ends.{ends-bad, ends-rebuilt, placed, image-empty}
+use Rattle.recovery.proofs.Ends.{refused-as, ends-bad, ends-rebuilt, placed, image-empty}
 use Rattle.recovery.proofs.recover_media.Statement.{statement}
 use Rattle.recovery.proofs.recover_media.Tie as tie
 
@@ -52,13 +52,18 @@ searched c =
 enum-known-bad : tie.Need-enum-known-bad
 enum-known-bad c = search needs
 
+refuse-after-requires : tie.Need-refuse-after-requires
+refuse-after-requires c κs = search needs
+
 returns : tie.Need-returns
 returns c =
-    let found = c .before .before .before in
+    let told = c .before in
+    let found = told .before .before .before in
     let at = found .before .before in
     let a = start at .args in
-    ends-bad (a .keys .now) (a .stores) (given at) (found .before .shadow-owners .result) (listed (found .before)) (searched found)
-    (c .before .bad .given .1)
+    refused-as (given at) (c .refuse-after .ensures)
+    ∙ ends-bad (a .keys .now) (a .stores) (given at) (found .before .shadow-owners .result) (listed (found .before)) (searched found)
+    (told .before .bad .given .1)
 
 enum-told : tie.Need-enum-told
 enum-told c = search needs
@@ -93,14 +98,16 @@ rebuild-requires c κs =
     let at = found .before .before in
     let s = start at in
     let z = s .pre .1 .1 in
-    let full = ap length (empty at) ∙ length-empty (depth (s .args .control .now)) in (
-      (
-        s .pre .0,
-        (s .pre .1 .0, (record { deep = z .deep; flat = z .flat; array = z .array; cache = full }, z .cache ∙ sym full)),
-      ),
-      placed (depth (s .args .control .now)) (s .args .array .now) (found .before .shadow-owners .result) (listed (found .before))
-          (sym (searched found) ∙ told .enum-told .given .1),
-    )
+    let full = ap length (empty at) ∙ length-empty (depth (s .args .control .now)) in
+    record {
+      keys48 = s .pre .0;
+      record681 = s .pre .1 .0;
+      sized = record { deep = z .deep; flat = z .flat; array = z .array; cache = full };
+      same-length = z .cache ∙ sym full;
+      placed =
+          placed (depth (s .args .control .now)) (s .args .array .now) (found .before .shadow-owners .result) (listed (found .before))
+          (sym (searched found) ∙ told .enum-told .given .1);
+    }
 
 same-length : tie.Need-same-length
 same-length c = search needs
@@ -124,6 +131,7 @@ recover-media-spec =
     shadow-owners-requires
     bad-slot-requires
     enum-known-bad
+    refuse-after-requires
     returns
     enum-told
     sub-rebuild
