@@ -7,9 +7,9 @@ use Rattle.memory_map.specs.Map.{cellOf}
 use Rattle.memory_map.specs.Map.Item.{line, node, shadow}
 use Rattle.calls.specs.Recovery.{refusalOf, forwardStep}
 
--- a minor brought forward to a phase, and the refusal of it, 0 where there is none
+-- the refusal of a minor and a phase, 0 where there is none, and the minor brought forward
 abbrev pub brought : ℕ → ℕ → List ℕ
-brought s p = forward s p ∷ refusalOf (forwardStep 0 s p [] 0) ∷ []
+brought s p = refusalOf (forwardStep 0 s p [] 0) ∷ forward s p ∷ []
 
 -- 64 zero bytes with 127 as minor 1
 abbrev pub block : List ℕ
@@ -22,14 +22,14 @@ pub record Row : Type 0 where
 -- P1 to P8: minor and phase; P9 to P13: cells of depth 1; P14: bytes 8 and 9 of a counter block
 unfoldable pub table : List Row
 table =
-    record { computed = brought 4 2; said = 6 ∷ 0 ∷ [] }
-    ∷ record { computed = brought 0 3; said = 3 ∷ 0 ∷ [] }
-    ∷ record { computed = brought 5 1; said = 5 ∷ 0 ∷ [] }
-    ∷ record { computed = brought 6 1; said = 9 ∷ 0 ∷ [] }
-    ∷ record { computed = brought 124 3; said = 127 ∷ 0 ∷ [] }
-    ∷ record { computed = brought 127 3; said = 127 ∷ 0 ∷ [] }
-    ∷ record { computed = brought 125 0; said = 128 ∷ 32 ∷ [] }
-    ∷ record { computed = brought 126 1; said = 129 ∷ 32 ∷ [] }
+    record { computed = brought 4 2; said = 0 ∷ 6 ∷ [] }
+    ∷ record { computed = brought 0 3; said = 0 ∷ 3 ∷ [] }
+    ∷ record { computed = brought 5 1; said = 0 ∷ 5 ∷ [] }
+    ∷ record { computed = brought 6 1; said = 0 ∷ 9 ∷ [] }
+    ∷ record { computed = brought 124 3; said = 0 ∷ 127 ∷ [] }
+    ∷ record { computed = brought 127 3; said = 0 ∷ 127 ∷ [] }
+    ∷ record { computed = brought 125 0; said = 32 ∷ 128 ∷ [] }
+    ∷ record { computed = brought 126 1; said = 32 ∷ 129 ∷ [] }
     ∷ record { computed = cellOf 1 (line 511) ∷ []; said = 511 ∷ [] }
     ∷ record { computed = cellOf 1 (node 0 0) ∷ []; said = 512 ∷ [] }
     ∷ record { computed = cellOf 1 (node 1 0) ∷ []; said = 520 ∷ [] }
