@@ -90,5 +90,6 @@ pub read-small : {x : Reading} {b : Answer} {l : Module} {o : List ℕ}
     → record { called = record { answer = b; after = l }; output = o } ≡ x → Fits (x .called) → codeOf b < 200
 read-small e p = code-small (ap (λ (z : Reading). z .called) e) p
 
-pub list-small : {x : Listing} {b : Answer} {o : List ℕ} → record { answer = b; output = o } ≡ x → codeOf (x .answer) ≤ 100 + lastRefusal → codeOf b < 200
+pub list-small : {x : Listing} {b : Answer} {o : List ℕ} → record { answer = b; output = o } ≡ x
+    → codeOf (x .answer) ≤ 100 + lastRefusal → codeOf b < 200
 list-small e p = small (ap (λ (z : Listing). z .answer) e) p
