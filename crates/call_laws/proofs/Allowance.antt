@@ -23,7 +23,7 @@ use Rattle.tag.specs.Tag.{nodeTag}
 use Rattle.journal.specs.Journal.{Store, storeAll, pendingStores, batchStores}
 use Rattle.journal.proofs.Laws.{made-all, less-cut, cut-made}
 use Rattle.calls.specs.Path.{Loaded, loaded, differs}
-use Rattle.calls.specs.Call.{Module, Called, mediaOf, withMedia, refuse, storing, accessRefusal, pathOf}
+use Rattle.calls.specs.Call.{Module, Called, NotCut, mediaOf, withMedia, refuse, storing, accessRefusal, pathOf}
 use Rattle.calls.specs.Read.{blankText, answered, refusedRead, lineMinor, sideOk, lineText, readLoaded, readPath, readJudged, read}
 use Rattle.calls.specs.Write.{writeStores, writtenCache, writeLoaded, writePath, writeJudged, write}
 use Rattle.calls.specs.Turn.{turnRefusal, blockOf, turnPlaces, badLine, turnBatches, storesFor, turnedCache, turnChecked}
@@ -31,7 +31,6 @@ use Rattle.calls.specs.Turn.{turnLoaded, turnPath}
 use Rattle.calls.specs.Turn.{pagePath, turnJudged, turn}
 use Rattle.calls.specs.Recovery.{Forwarded, soFar, badPhase, badMinor, refusalOf, rebuildBlocks, rebuildNodes, recoveryRefusal}
 use Rattle.calls.specs.Recovery.{recoverRoot, recoverRebuilt, recoverShadow, recoverMedia, recoverJudged, recover}
-use Rattle.calls.specs.History.{NotCut}
 
 -- a call as a function of its allowance
 pub record Limited (f : ℕ → Called) : Type 0 where

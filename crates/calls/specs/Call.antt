@@ -1,6 +1,7 @@
 -- What all calls share: the buffers of a module, what a call answers and leaves, refusals in sequence, and stores under an allowance.
 -- Assumes nothing.
 use Prim.Native.Nat.{ℕ}
+use mathlib.Core.Path.{_≡_}
 use mathlib.Core.Bool.{Bool, not, cond}
 use mathlib.Core.List.{List, [], _∷_, _++_}
 use lib.Dec.{leb, eqb}
@@ -36,6 +37,9 @@ buffers a k c = record { array = a; control = k; cache = c }
 
 abbrev pub ended : Answer → List ℕ → List ℕ → List ℕ → Called
 ended r a k c = record { answer = r; after = buffers a k c }
+
+unfoldable pub NotCut : Answer → Type 0
+NotCut a = (k : ℕ) → a ≡ Cut k → ⊥
 
 -- Refusals: the first of a sequence whose test holds, 0 where none does
 

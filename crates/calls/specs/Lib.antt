@@ -7,4 +7,3 @@ pub mod Recovery
 pub mod Format
 pub mod DirtyPages
 pub mod ForC
-pub mod History

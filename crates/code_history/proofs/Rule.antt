@@ -10,7 +10,7 @@ use Rattle.calls.specs.Read.{Reading}
 use Rattle.calls.specs.Format.{format}
 use Rattle.calls.specs.Recovery.{recover}
 use Rattle.calls.specs.DirtyPages.{Listing}
-use Rattle.calls.specs.History.{
+use Rattle.history_laws.specs.History.{
   Event,
   recovers,
   step,

@@ -10,7 +10,7 @@ use borrow.Fn.Kinds.{Dens, resT, Out, endedOf}
 use Rattle.answer.specs.declared.Answer.{Answer}
 use Rattle.answer.specs.declared.Answer.the-variants.{Cut}
 use Rattle.calls.specs.Call.{Module, buffers}
-use Rattle.calls.specs.History.{Event, reads, writes, turns, recovers, lists, formats, powerCut}
+use Rattle.history_laws.specs.History.{Event, reads, writes, turns, recovers, lists, formats, powerCut}
 use Rattle.format.proofs.format.Kinds as format-kinds
 use Rattle.format.proofs.format.Reads as format-contract
 use Rattle.read.proofs.read.Kinds as read-kinds

@@ -24,7 +24,7 @@ use Rattle.journal.proofs.Kept.{Formed, Within, within-batch, made-kept, stores
 use Rattle.journal.proofs.Again.{put-cells, rooted, cleared, finish-stores, batch-dropped}
 use Rattle.journal.proofs.Turns.{length-turn-stores, turn-dropped, turn-kept}
 use Rattle.calls.specs.Call.{Module, mediaOf, withMedia}
-use Rattle.calls.specs.History.{Book}
+use Rattle.history_laws.specs.History.{Book}
 use Rattle.call_laws.proofs.Loads.{Sound}
 use Rattle.call_laws.proofs.Kept.{wholes, in-map, array-cells}
 use Rattle.history_laws.proofs.Setting.{Setting, treeOf, treeRoot, Opening, Section}

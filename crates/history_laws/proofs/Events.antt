@@ -26,8 +26,8 @@ use Rattle.calls.specs.Turn.{turnRefusal, turnJudged, turn, pagePath, beforeFin
 use Rattle.calls.specs.Recovery.{recover}
 use Rattle.calls.specs.Format.{formatRefusal, formatted, format}
 use Rattle.calls.specs.DirtyPages.{listRefusal, listJudged}
-use Rattle.calls.specs.History.{Event, reads, writes, turns, recovers, lists, formats, powerCut, step, Book}
-use Rattle.calls.specs.History.{commits, entered, finishes, turnEntered, bookAfter, Keyed, Admitted, awaits, Allowed, moduleAfter, bookOf}
+use Rattle.history_laws.specs.History.{Event, reads, writes, turns, recovers, lists, formats, powerCut, step, Book}
+use Rattle.history_laws.specs.History.{commits, entered, finishes, turnEntered, bookAfter, Keyed, Admitted, awaits, Allowed, moduleAfter, bookOf}
 use Rattle.call_laws.proofs.Judged.{access-accepted, turn-accepted}
 use Rattle.history_laws.proofs.Setting.{Setting, Opening}
 use Rattle.history_laws.proofs.Opening.{closed-line}
@@ -39,6 +39,11 @@ use Rattle.history_laws.proofs.Writing.{read-outcome, Writable, cells, 
 use Rattle.history_laws.proofs.Turned.{Turns, refused, went, turn-ends}
 use Rattle.history_laws.proofs.Recovery.{Ends, cut, rebuilt, ends}
 use Rattle.history_laws.proofs.Refused.{Same, read-same, write-same, turn-same, recover-same}
+
+-- a write that makes 2m + 3 stores with stores enough is committed by a cut after more than m
+cut-commits : (m full : ℕ) → full ≡ 2 * m + 3 → (k : ℕ) → commits (Cut k) full ≡ ltb m k
+unfolding commits
+cut-commits m full e k = let half : (full - 3) / 2 ≡ m = omega arith in ap (λ (i : ℕ). ltb i k) half
 
 module _ (S : Setting) where
   open Setting S using (keys, h)
@@ -132,13 +137,11 @@ module _ (S : Setting) where
       unfolding awaits commits entered
       not-entered full k x y = ready-inv r
 
-      -- whether the cut commits it: more than size stores of 2 size + 3
       write-ended : (size full : ℕ) → full ≡ 2 * size + 3 → (answer : Answer) → ((k : ℕ) → commits answer k ≡ true) → (out : Called)
           → Outcome S b (entered true n text b) size answer out → Entered full out
-      unfolding commits entered
+      unfolding entered
       write-ended size full f answer yea out =
-          let half : (full - 3) / 2 ≡ size = omega arith in
-          ended (λ s. entered s n text b) (λ a. commits a full) out (yea full) (λ i. ap (λ (k : ℕ). ltb k i) half)
+          ended (λ s. entered s n text b) (λ a. commits a full) out (yea full) (cut-commits size full f)
 
       abbrev most : ℕ
       most = storesOf ((write keys n text (2 ^ 64 - 1) m) .answer)

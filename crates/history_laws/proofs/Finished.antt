@@ -12,7 +12,7 @@ use Rattle.memory_map.specs.Map.{pageOf, placeOf, lines}
 use Rattle.counter.specs.Counter.{major, minor, counterBlock, phaseOf, turnedMinor, turned}
 use Rattle.turn_block.proofs.Laws.{turned-lt}
 use Rattle.calls.specs.Format.{countsFrom, freshNode}
-use Rattle.calls.specs.History.{Book, turnEntered}
+use Rattle.history_laws.specs.History.{Book, turnEntered}
 use Rattle.history_laws.proofs.Setting.{Setting, Tree, Small, Alike, treeOf, treeNode, nodeIn}
 use Rattle.history_laws.proofs.Setting.{Opening, closed, among, opens, isDone, turnedTree, sealed}
 use Rattle.history_laws.proofs.Tree.{fresh-major, fresh-minors, fresh-minor}

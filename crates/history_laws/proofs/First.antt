@@ -13,7 +13,7 @@ use Rattle.cache.specs.Cache.{emptyCache}
 use Rattle.cache.proofs.Laws.{length-empty, below-empty, owner-empty, formed-empty}
 use Rattle.journal.specs.Journal.{media}
 use Rattle.calls.specs.Format.{freshArray}
-use Rattle.calls.specs.History.{emptyBook}
+use Rattle.history_laws.specs.History.{emptyBook}
 use Rattle.call_laws.proofs.Fresh.{array-length, array-bytes, control-length, control-bytes}
 use Rattle.history_laws.proofs.Setting.{Setting, treeRoot, closed, isDone, Says}
 use Rattle.history_laws.proofs.Tree.{tree-tag}

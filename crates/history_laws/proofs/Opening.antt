@@ -24,7 +24,7 @@ use Rattle.turn_block.proofs.Laws.{turned-none, written-stands}
 use Rattle.control.specs.Control.{controlLength, depth, turnAt, turnCount, turnPage, turnMask, turnBytes, isOpen}
 use Rattle.control.proofs.Laws.{same-depth, same-turn-count, same-turn-page, same-turn-mask, same-turn, length-turn}
 use Rattle.control.proofs.Laws.{turn-count-at, turn-page-at, turn-mask-at, turn-none, turn-in}
-use Rattle.calls.specs.History.{turnedCount}
+use Rattle.history_laws.specs.History.{turnedCount}
 use Rattle.history_laws.proofs.Setting.{Setting, Tree, Small, Agree, Alike, treeNode}
 use Rattle.history_laws.proofs.Setting.{Opening, closed, turning, among, opens, isDone, turnedTree, sealed, Says, Section}
 use Rattle.history_laws.proofs.Tree.{changed-same, changed-other, fresh-minor}

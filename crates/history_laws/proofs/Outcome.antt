@@ -16,7 +16,7 @@ use Rattle.journal.specs.Journal.{Store, Media, storeAll, made, isCut}
 use Rattle.journal.proofs.Laws.{made-all, cut-made, store-append}
 use Rattle.journal.proofs.Again.{put-cells}
 use Rattle.calls.specs.Call.{Module, Called, mediaOf, withMedia, storing}
-use Rattle.calls.specs.History.{Book}
+use Rattle.history_laws.specs.History.{Book}
 use Rattle.history_laws.proofs.Setting.{Setting, treeOf, Opening}
 use Rattle.history_laws.proofs.Live.{Live}
 use Rattle.history_laws.proofs.State.{Holds, Ready, settled-holds}

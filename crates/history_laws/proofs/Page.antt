@@ -6,7 +6,7 @@ use Rattle.control.specs.Control.{depth, root}
 use Rattle.journal.proofs.Again.{put-cells}
 use Rattle.calls.specs.Call.{Module, mediaOf}
 use Rattle.calls.specs.Path.{loaded, loadPath}
-use Rattle.calls.specs.History.{Book}
+use Rattle.history_laws.specs.History.{Book}
 use Rattle.call_laws.proofs.Loads.{Loads, LoadsIf, path-loads}
 use Rattle.history_laws.proofs.Setting.{Setting, treeOf, treeRoot, Opening}
 use Rattle.history_laws.proofs.Walked.{Array, Walked, walked}

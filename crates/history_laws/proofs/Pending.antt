@@ -22,7 +22,7 @@ use Rattle.journal.proofs.Laws.{length-finish, pending-some, pending-none, fini
 use Rattle.journal.proofs.Kept.{Within, within-pending, made-kept, stores-front}
 use Rattle.journal.proofs.Again.{cells-stores, rooted, cleared, finish-stores, root-stores, again}
 use Rattle.calls.specs.Call.{Module, mediaOf, withMedia}
-use Rattle.calls.specs.History.{Book}
+use Rattle.history_laws.specs.History.{Book}
 use Rattle.call_laws.proofs.Kept.{array-cells}
 use Rattle.history_laws.proofs.Setting.{Setting, Opening}
 use Rattle.history_laws.proofs.State.{Settled, Holds, idle-valid}

@@ -18,7 +18,7 @@ use Rattle.journal.proofs.Again.{put-cells}
 use Rattle.calls.specs.Call.{Module, mediaOf, refuse, accessRefusal}
 use Rattle.calls.specs.Read.{Reading, blankText, sideOk, lineText, pageBlock, lineMinor}
 use Rattle.calls.specs.Read.{answered, readLoaded, readPath, readJudged, read, refusedRead}
-use Rattle.calls.specs.History.{Book}
+use Rattle.history_laws.specs.History.{Book}
 use Rattle.history_laws.proofs.Setting.{Setting, Tree, treeOf, Opening, isDone}
 use Rattle.history_laws.proofs.Opening.{sealed-tree}
 use Rattle.history_laws.proofs.Walked.{Walked}

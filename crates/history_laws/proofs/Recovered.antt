@@ -28,7 +28,7 @@ use Rattle.calls.specs.Recovery.{phaseByte, Forwarded, soFar, onward, forwardSt
 use Rattle.calls.specs.Recovery.{rebuildBlock, rebuildSlot, rebuildBlocks, rebuildNode, rebuildNodes, recoverRoot}
 use Rattle.calls.specs.Recovery.{recoverRebuilt, recoverShadow, recoverMedia, refuseAfter}
 use Rattle.calls.specs.Format.{countsFrom, freshNode}
-use Rattle.calls.specs.History.{total}
+use Rattle.history_laws.specs.History.{total}
 use Rattle.calls.specs.Path.{childTags}
 use Rattle.call_laws.proofs.Tags.{tags-agree}
 use Rattle.history_laws.proofs.Setting.{Setting, Tree, Small, treeNode, treeRoot, nodeIn, tagOf, Opening, opens, sealed, Section}

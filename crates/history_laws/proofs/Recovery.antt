@@ -15,7 +15,7 @@ use Rattle.journal.proofs.Laws.{made-all}
 use Rattle.calls.specs.Call.{Module, Called, mediaOf, withMedia}
 use Rattle.calls.specs.Recovery.{recoveryRefusal, recoverMedia, recoverJudged, recover}
 use Rattle.calls.specs.Format.{countsFrom}
-use Rattle.calls.specs.History.{Book, storedMinor, total}
+use Rattle.history_laws.specs.History.{Book, storedMinor, total}
 use Rattle.call_laws.proofs.Judged.{end, opened-on}
 use Rattle.call_laws.proofs.Rebuilt.{recover-kept}
 use Rattle.history_laws.proofs.Setting.{Setting, Tree, treeOf, Opening, Section}

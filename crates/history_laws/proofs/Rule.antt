@@ -17,12 +17,12 @@ use Rattle.control.specs.Control.{isOpen}
 use Rattle.cache.specs.Cache.{formed}
 use Rattle.cache.proofs.Laws.{facts-formed}
 use Rattle.journal.specs.Journal.{Store, isCut}
-use Rattle.calls.specs.Call.{Module, Called, mediaOf, storing, judged, accessRefusal, refuse}
+use Rattle.calls.specs.Call.{Module, Called, NotCut, mediaOf, storing, judged, accessRefusal, refuse}
 use Rattle.calls.specs.Read.{Reading, answered, read}
 use Rattle.calls.specs.Recovery.{recover}
 use Rattle.calls.specs.Format.{formatRefusal, formatted, format, countsFrom}
-use Rattle.calls.specs.History.{recovers, Book, emptyBook, Allowed, moduleAfter, bookOf, counter}
-use Rattle.calls.specs.History.{storedMinor, total, NotCut, Gives, Restored, NotRefused, HistoryRule}
+use Rattle.history_laws.specs.History.{recovers, Book, emptyBook, Allowed, moduleAfter, bookOf, counter}
+use Rattle.history_laws.specs.History.{storedMinor, total, Gives, Restored, NotRefused, HistoryRule}
 use Rattle.call_laws.proofs.Judged.{entry-on, format-accepted}
 use Rattle.history_laws.proofs.Setting.{Setting, Opening}
 use Rattle.history_laws.proofs.Opening.{closed-line}

@@ -16,7 +16,7 @@ use Rattle.pad.specs.Pad.{pad, xorBytes}
 use Rattle.tag.specs.Tag.{nodeTag}
 use Rattle.calls.specs.Read.{sideBytes}
 use Rattle.calls.specs.Format.{freshNode, freshRoot}
-use Rattle.calls.specs.History.{Book, changed, turnedCount}
+use Rattle.history_laws.specs.History.{Book, changed, turnedCount}
 
 -- what stays the same through a history: the keys, 48 bytes, and the depth h
 pub record Setting : Type 0 where

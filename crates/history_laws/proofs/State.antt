@@ -18,7 +18,7 @@ use Rattle.journal.proofs.Laws.{pending-none, store-none}
 use Rattle.journal.proofs.Kept.{Formed}
 use Rattle.calls.specs.Call.{Module, mediaOf, withMedia}
 use Rattle.calls.specs.Recovery.{phaseByte}
-use Rattle.calls.specs.History.{Book}
+use Rattle.history_laws.specs.History.{Book}
 use Rattle.call_laws.proofs.Judged.{Opened}
 use Rattle.call_laws.proofs.Kept.{Bytes}
 use Rattle.history_laws.proofs.Setting.{Setting, Tree, Alike, treeOf, treeRoot, Opening, sealed, Section}

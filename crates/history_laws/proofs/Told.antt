@@ -20,7 +20,7 @@ use Rattle.counter.specs.Counter.{minors, minor}
 use Rattle.counter.proofs.Laws.{length-minors}
 use Rattle.cache.specs.Cache.{shadowOwner}
 use Rattle.calls.specs.Format.{countsFrom}
-use Rattle.calls.specs.History.{total}
+use Rattle.history_laws.specs.History.{total}
 use Rattle.history_laws.proofs.Setting.{Setting, Tree, nodeIn, Opening}
 use Rattle.history_laws.proofs.Tree.{length-counts, counts-agree, counts-at, fresh-minors}
 use Rattle.history_laws.proofs.Recovered.{Durable, pageSum, added}

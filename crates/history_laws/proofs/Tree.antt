@@ -19,7 +19,7 @@ use Rattle.counter.proofs.Laws.{major-counterBlock, minors-counterBlock}
 use Rattle.tag.proofs.Tags.{nodeTag-lt}
 use Rattle.cache.specs.Cache.{content}
 use Rattle.calls.specs.Format.{countsFrom, freshNode}
-use Rattle.calls.specs.History.{changed}
+use Rattle.history_laws.specs.History.{changed}
 use Rattle.calls.specs.Path.{childTag, renewed, tagsFrom}
 use Rattle.memory_map.proofs.Laws.{path-up, path-bottom}
 use Rattle.call_laws.proofs.Fresh.{fresh-length, fresh-bytes}

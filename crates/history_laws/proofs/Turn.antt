@@ -29,7 +29,7 @@ use Rattle.calls.specs.Read.{sideBytes, pageBlock, lineMinor}
 use Rattle.calls.specs.Write.{lineCell}
 use Rattle.calls.specs.Turn.{lineAt, blockOf, turnedCell, leftBytes, newBlockCell, turnedRoot, lastBatch, batchesOf, storesFor, beforeLast}
 use Rattle.calls.specs.Turn.{Batch as Spec·Batch}
-use Rattle.calls.specs.History.{Book, turnEntered}
+use Rattle.history_laws.specs.History.{Book, turnEntered}
 use Rattle.call_laws.proofs.Turn.{Proper, line-inside, line-page, line-place}
 use Rattle.history_laws.proofs.Setting.{Setting, Tree, treeOf, treeNode, treeRoot, nodeIn}
 use Rattle.history_laws.proofs.Setting.{Opening, closed, turning, among, opens, isDone, turnedTree}

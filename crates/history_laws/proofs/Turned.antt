@@ -21,7 +21,7 @@ use Rattle.calls.specs.Call.{Module, Called, refuse, storing}
 use Rattle.calls.specs.Read.{lineMinor, sideOk}
 use Rattle.calls.specs.Turn.{Batch, turnRefusal, lineAt, blockOf, turnPlaces, badLine, batchesOf, turnFront, turnBatches, storesFor}
 use Rattle.calls.specs.Turn.{turnedCache, turnChecked, turnLoaded, turnPath, turnJudged, turn, pagePath, beforeLast, beforeFinished}
-use Rattle.calls.specs.History.{Book, turnEntered}
+use Rattle.history_laws.specs.History.{Book, turnEntered}
 use Rattle.call_laws.proofs.Judged.{turn-accepted}
 use Rattle.call_laws.proofs.Loads.{Sound, sound-node}
 use Rattle.call_laws.proofs.Turn.{Proper, block-inside, line-page, line-place, batches-proper, places-climb}

@@ -21,7 +21,7 @@ use Rattle.turn_block.proofs.Laws.{turned-some}
 use Rattle.cache.specs.Cache.{shadowOwner}
 use Rattle.cache.proofs.Laws.{owned-same, slot-holds}
 use Rattle.calls.specs.Turn.{lineAt}
-use Rattle.calls.specs.History.{Book}
+use Rattle.history_laws.specs.History.{Book}
 use Rattle.call_laws.proofs.Turn.{line-inside, line-page, line-place}
 use Rattle.history_laws.proofs.Setting.{Setting, Tree, Alike, treeOf, treeNode, nodeIn}
 use Rattle.history_laws.proofs.Setting.{Opening, turning, among, opens, turnedTree, sealed}

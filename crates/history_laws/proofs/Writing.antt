@@ -29,7 +29,7 @@ use Rattle.calls.specs.Read.{sideBytes, lineMinor}
 use Rattle.calls.specs.Write.{newBlock, stopLoss, lineCell, dataCell, writeBatch, writeStores}
 use Rattle.calls.specs.Write.{writtenCache, writeLoaded, writePath, writeJudged, write}
 use Rattle.calls.specs.Path.{nodeCell, renewPath, renewedRoot}
-use Rattle.calls.specs.History.{Book, entered}
+use Rattle.history_laws.specs.History.{Book, entered}
 use Rattle.call_laws.proofs.Judged.{access-accepted}
 use Rattle.call_laws.proofs.Kept.{Given, batch-sound, batch-bound}
 use Rattle.call_laws.proofs.Loads.{Sound}

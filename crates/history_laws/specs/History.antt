@@ -16,13 +16,13 @@ use Rattle.answer.specs.declared.Answer.the-variants.{Done, Blank, Cut, Refused
 use Rattle.answer.specs.Answer.{storesOf}
 use Rattle.control.specs.Control.{root, isOpen}
 use Rattle.cache.specs.Cache.{cellContent, current}
-use Rattle.calls.specs.Call.{Module, Called}
+use Rattle.calls.specs.Call.{Module, Called, NotCut}
 use Rattle.calls.specs.Read.{Reading, blankText, read}
 use Rattle.calls.specs.Write.{write}
 use Rattle.calls.specs.Turn.{turn, pagePath, beforeFinished}
 use Rattle.calls.specs.Recovery.{recover}
 use Rattle.calls.specs.Format.{format, freshNode, freshRoot, countsFrom}
 use Rattle.calls.specs.DirtyPages.{dirtyPages}
 
 -- Events: the calls with their inputs, and a power cut between calls, which leaves any cache of its length
 
@@ -155,9 +155,6 @@ storedMinor h m n = minor (cellContent (m .array) (cellOf h (node 0 (pageOf n)))
 unfoldable pub total : List ℕ → ℕ
 total [] = 0
 total (x ∷ xs) = x + total xs
-
-unfoldable pub NotCut : Answer → Type 0
-NotCut a = (k : ℕ) → a ≡ Cut k → ⊥
 
 -- what a read of a line with that text in the book gives
 unfoldable pub Gives : Option (List ℕ) → Reading → Type 0
