@@ -9,7 +9,6 @@ use native.Mathlib.Nat.{le-refl, le-trans, le-of-eq, not-suc-le-zero}
 use native.Mathlib.Omega.{arith}
 use lib.Dec.{eqb}
 use lib.ListN.{length, take, drop}
-use borrow.Author.Tests.{le-ltb}
 use Rattle.words.proofs.Order.{lt-or-ge}
 use Rattle.answer.specs.declared.Answer.{Answer}
 use Rattle.answer.specs.declared.Answer.the-variants.{Done, Blank, Cut, Refused}
@@ -21,7 +20,7 @@ use Rattle.cache.specs.declared.Found.the-variants.{Nothing, At}
 use Rattle.cache.specs.Cache.{shadowOwners, current, badSlot, emptyCache}
 use Rattle.tag.specs.Tag.{nodeTag}
 use Rattle.journal.specs.Journal.{Store, storeAll, pendingStores, batchStores}
-use Rattle.journal.proofs.Laws.{made-all, less-cut, cut-made}
+use Rattle.journal.proofs.Laws.{made-all, less-cut, enough-whole, cut-made}
 use Rattle.calls.specs.Path.{Loaded, loaded, differs}
 use Rattle.calls.specs.Call.{Module, Called, NotCut, mediaOf, withMedia, refuse, storing, accessRefusal, pathOf}
 use Rattle.calls.specs.Read.{blankText, answered, refusedRead, lineMinor, sideOk, lineText, readLoaded, readPath, readJudged, read}
@@ -96,7 +95,7 @@ cut-answer a m xs answer c h = rw (less-cut a xs h, cut-made a xs h)
 full-answer : (a : ℕ) (m : Module) (xs : List Store) (answer : Answer) (c : List ℕ) → length xs ≤ a
     → storing a m xs answer c ≡ record { answer = answer; after = withMedia (storeAll (mediaOf m) xs) c }
 unfolding storing
-full-answer a m xs answer c h = rw (le-ltb a (length xs) h, made-all a xs h)
+full-answer a m xs answer c h = rw (enough-whole a xs h, made-all a xs h)
 
 -- stores under an allowance
 stored-limited : (m : Module) (xs : List Store) (answer : Answer) (c : List ℕ) → storesOf answer ≡ length xs → NotCut answer
@@ -239,7 +238,7 @@ module _ (keys : List ℕ) (m : Module) where
   recover-full : (a : ℕ) → length xs ≤ a
       → recoverJudged 0 keys a m ≡ recoverMedia keys (length xs) (withMedia (storeAll (mediaOf m) xs) (m .cache))
   unfolding recoverJudged
-  recover-full a h = rw (le-ltb a (length xs) h, made-all a xs h)
+  recover-full a h = rw (enough-whole a xs h, made-all a xs h)
 
   recover-judged : (n : ℕ) → Limited (λ a. recoverJudged n keys a m)
   unfolding recoverJudged

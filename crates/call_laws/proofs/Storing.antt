@@ -4,12 +4,11 @@ use mathlib.Core.Bool.{Bool, true, false, cond}
 use mathlib.Core.List.{List}
 use Prim.Native.Nat.{ℕ, min, _≤_, _<_}
 use native.Mathlib.Omega.{arith}
-use borrow.Author.Tests.{le-ltb}
 use lib.ListN.{length, length-take}
 use Rattle.answer.specs.declared.Answer.{Answer}
 use Rattle.answer.specs.declared.Answer.the-variants.{Done, Cut}
 use Rattle.journal.specs.Journal.{Store, Media, media, storeAll, made, isCut, Stored}
-use Rattle.journal.proofs.Laws.{less-cut}
+use Rattle.journal.proofs.Laws.{less-cut, enough-whole}
 use Rattle.calls.specs.Call.{Module, Called, mediaOf, withMedia, ended, storing}
 
 -- a call that is cut, or ends with an answer
@@ -51,7 +50,7 @@ module _ (allowance : ℕ) (m : Module) (xs : List Store) (answer : Answer) (c a
   pub storing-done : length xs ≤ told → ended answer a k c ≡ storing allowance m xs answer c
   storing-done p =
       ap (λ (d : Media). record { answer = answer; after = withMedia d c }) (s .left)
-      ∙ sym (storing-is allowance m xs answer c false (le-ltb allowance (length xs) (omega (arith, few))))
+      ∙ sym (storing-is allowance m xs answer c false (enough-whole allowance xs (omega (arith, few))))
 
 -- ---- from the answer done, or another: what another answer in the place of done would give
 

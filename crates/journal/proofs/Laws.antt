@@ -1,11 +1,11 @@
 -- Laws of stores: how many a batch makes, what a leading part of them is, and what a list of them leaves. Assumes nothing.
 use mathlib.Core.Path.{_≡_, refl, sym, ap, _∙_}
-use mathlib.Core.Bool.{true}
+use mathlib.Core.Bool.{true, false}
 use mathlib.Core.List.{List, [], _∷_, _++_, map}
 use Prim.Native.Nat.{ℕ, zero, suc, _+_, _*_, _≤_, _<_}
 use native.Mathlib.Nat.{not-suc-le-zero}
 use native.Mathlib.Omega.{arith}
-use borrow.Author.Tests.{lt-ltb}
+use borrow.Author.Tests.{lt-ltb, le-ltb}
 use lib.ListN.{length, take, length-append, length-map, length-take}
 use lib.Seq.{take-all, take-append-le, take-append-add}
 use Rattle.control.specs.Control.{Cell, queue, count, newRoot}
@@ -52,7 +52,10 @@ pub made-all : (a : ℕ) (xs : List Store) → length xs ≤ a → made a xs ≡
 made-all a xs h = take-all a xs h
 
 pub less-cut : (a : ℕ) (xs : List Store) → a < length xs → isCut a xs ≡ true
-less-cut a xs h = lt-ltb a (length xs) h
+less-cut a xs h = lt-ltb a _ (omega (arith, h))
+
+pub enough-whole : (a : ℕ) (xs : List Store) → length xs ≤ a → isCut a xs ≡ false
+enough-whole a xs h = le-ltb a _ (omega (arith, h))
 
 pub cut-made : (a : ℕ) (xs : List Store) → a < length xs → length (made a xs) ≡ a
 cut-made a xs h = omega (arith, length-take a xs)

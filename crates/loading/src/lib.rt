@@ -92,7 +92,7 @@ pub fn load_missing(h: usize, array: &[u8], p: usize, missing: u64, cache: &mut 
     requires { ⌜ Sized h (now array) (now cache) × ((p < pages h) × (missing ≡ missingNodes (now cache) p (suc h))) ⌝ }
     ensures { λ _. ⌜ now (cache .exit) ≡ withPath h (now (array .entry)) p (suc h) (now (cache .entry)) ⌝ }
 {
-    if missing == 0 {
+    if missing < 1 {
         return;
     }
     load(h, array, p, cache);

@@ -8,7 +8,7 @@ use native.Mathlib.Omega.{arith}
 use lib.Dec.{eqb}
 use lib.ListN.{length, getD, take, drop, replicate, length-take, length-replicate, replicate-append-replicate}
 use lib.Seq.{take-at, take-take, getD-take}
-use borrow.Author.Tests.{eq-eqb, ne-eqb, le-ltb}
+use borrow.Author.Tests.{eq-eqb, ne-eqb}
 use Rattle.memory_map.specs.Map.{slots}
 use Rattle.slot_map.specs.Slots.{cacheLength}
 use Rattle.tag.specs.Tag.{nodeTag}
@@ -21,7 +21,7 @@ use Rattle.cache.specs.declared.Found.the-variants.{Nothing, At}
 use Rattle.cache.specs.Cache.{emptyCache, shadowOwner, shadowOwners, badSlot, current}
 use Rattle.cache.proofs.Laws.{owned, getD-from}
 use Rattle.journal.specs.Journal.{Store, Media, media, storeAll, pendingStores, made, isCut, Stored}
-use Rattle.journal.proofs.Laws.{length-finish, pending-some, pending-none, less-cut}
+use Rattle.journal.proofs.Laws.{length-finish, pending-some, pending-none, less-cut, enough-whole}
 use Rattle.node.specs.Sized.{Sized}
 use Rattle.calls.specs.Call.{Module, Called, buffers, ended, refuse, mediaOf, withMedia}
 use Rattle.calls.specs.Recovery.{soFar, rebuildBlocks, rebuildNodes, refuseAfter, recoveryRefusal, recover}
@@ -157,4 +157,4 @@ module _ (keys : List ℕ) (allowance : ℕ) (m : Module) where
     pub ends-media : length xs ≤ told → recoverMedia keys told (buffers a k (m .cache)) ≡ recover keys allowance m
     ends-media p =
         let all : told ≡ length xs = omega (arith, few) in
-        ap (λ (n : ℕ). recoverMedia keys n (buffers a k (m .cache))) all ∙ by-cut false (le-ltb allowance (length xs) (omega (arith, few)))
+        ap (λ (n : ℕ). recoverMedia keys n (buffers a k (m .cache))) all ∙ by-cut false (enough-whole allowance xs (omega (arith, few)))

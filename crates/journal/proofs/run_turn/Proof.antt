@@ -39,7 +39,7 @@ run-requires c κs =
         start .pre .1 .0,
         λ h. ap (inMap (length (a .array .now) / 72)) (ap (λ (k : List ℕ). places k (placeAt 0) (a .n)) (set .put-turn .ensures)
             ∙ turn-places (a .control .now) (turnBytes (a .count) (a .page) (a .mask)) (a .n) (start .pre .0) (start .pre .1 .0 .1))
-            ∙ start .pre .1 .1 h,
+            ∙ start .pre .1 .1 (omega (arith, set .before .before .if1 .left)),
       ),
     )
 

@@ -1,6 +1,7 @@
 -- `loading::load_missing` meets its contract. Assumes nothing.
-use mathlib.Core.Path.{sym, _∙_}
+use mathlib.Core.Path.{_≡_, sym, _∙_}
 use Prim.Native.Nat.{suc}
+use native.Mathlib.Omega.{arith}
 use borrow.Author.Needs.{needs}
 use Rattle.call_laws.proofs.Loads.{none-missing}
 use Rattle.loading.proofs.load_missing.Statement.{statement}
@@ -10,7 +11,8 @@ returns : tie.Need-returns
 returns c =
     let s = c .before .before .before in
     let a = s .args in
-    sym (none-missing (a .h) (a .array .now) (a .cache .now) (a .p) (suc (a .h)) (sym (s .pre .1 .1) ∙ c .if1 .taken) .1)
+    let none : a .missing ≡ 0 = omega (arith, c .if1 .taken) in
+    sym (none-missing (a .h) (a .array .now) (a .cache .now) (a .p) (suc (a .h)) (sym (s .pre .1 .1) ∙ none) .1)
 
 load-requires : tie.Need-load-requires
 load-requires c κs = search needs
