@@ -241,7 +241,7 @@ static uint32_t refuse(uint8_t *numbers, uint32_t refusal)
 }
 
 // The checks with which read, write and recovery start: a refusal or 0.
-static uint32_t open_module(module *m, size_t keys_len, size_t control_len, size_t array_len, size_t cache_len)
+static uint32_t open_module(module *m, uint64_t keys_len, uint64_t control_len, uint64_t array_len, uint64_t cache_len)
 {
     if (keys_len != NV_KEYS_LENGTH)
         return NV_BAD_KEYS_LENGTH;
@@ -264,7 +264,7 @@ static uint32_t at_rest(const module *m)
 }
 
 // The further checks of read and write before the path.
-static uint32_t open_line(const module *m, uint64_t line, size_t buffer_len)
+static uint32_t open_line(const module *m, uint64_t line, uint64_t buffer_len)
 {
     if (buffer_len != NV_TEXT_LENGTH)
         return NV_BAD_BUFFER_LENGTH;
@@ -405,9 +405,9 @@ static uint64_t stores_needed(unsigned count)
 
 // ---- The calls ----
 
-uint32_t NAME(format)(uint64_t depth, const uint8_t *keys, size_t keys_len, uint8_t *control, size_t control_len,
-                      uint8_t *array, size_t array_len, uint8_t *cache, size_t cache_len, uint8_t *numbers,
-                      size_t numbers_len)
+uint32_t NAME(format)(uint64_t depth, const uint8_t *keys, uint64_t keys_len, uint8_t *control, uint64_t control_len,
+                      uint8_t *array, uint64_t array_len, uint8_t *cache, uint64_t cache_len, uint8_t *numbers,
+                      uint64_t numbers_len)
 {
     if (numbers_len != NV_NUMBERS_LENGTH)
         return NV_REFUSED + NV_BAD_BUFFER_LENGTH;
@@ -435,9 +435,9 @@ uint32_t NAME(format)(uint64_t depth, const uint8_t *keys, size_t keys_len, uint
     return answer(numbers, NV_DONE, 0, 0, 0);
 }
 
-uint32_t NAME(read)(const uint8_t *keys, size_t keys_len, uint8_t *control, size_t control_len, uint8_t *array,
-                    size_t array_len, uint8_t *cache, size_t cache_len, uint64_t line, uint8_t *out, size_t out_len,
-                    uint64_t allowance, uint8_t *numbers, size_t numbers_len)
+uint32_t NAME(read)(const uint8_t *keys, uint64_t keys_len, uint8_t *control, uint64_t control_len, uint8_t *array,
+                    uint64_t array_len, uint8_t *cache, uint64_t cache_len, uint64_t line, uint8_t *out, uint64_t out_len,
+                    uint64_t allowance, uint8_t *numbers, uint64_t numbers_len)
 {
     if (numbers_len != NV_NUMBERS_LENGTH)
         return NV_REFUSED + NV_BAD_BUFFER_LENGTH;
@@ -516,9 +516,9 @@ static unsigned stage_data(const module *m, uint64_t line, const uint8_t *block,
     return j + 1;
 }
 
-uint32_t NAME(write)(const uint8_t *keys, size_t keys_len, uint8_t *control, size_t control_len, uint8_t *array,
-                     size_t array_len, uint8_t *cache, size_t cache_len, uint64_t line, const uint8_t *text,
-                     size_t text_len, uint64_t allowance, uint8_t *numbers, size_t numbers_len)
+uint32_t NAME(write)(const uint8_t *keys, uint64_t keys_len, uint8_t *control, uint64_t control_len, uint8_t *array,
+                     uint64_t array_len, uint8_t *cache, uint64_t cache_len, uint64_t line, const uint8_t *text,
+                     uint64_t text_len, uint64_t allowance, uint8_t *numbers, uint64_t numbers_len)
 {
     if (numbers_len != NV_NUMBERS_LENGTH)
         return NV_REFUSED + NV_BAD_BUFFER_LENGTH;
@@ -599,9 +599,9 @@ static int turn_lines(const module *m, uint64_t page, const path *p, const uint8
     }
 }
 
-uint32_t NAME(turn)(const uint8_t *keys, size_t keys_len, uint8_t *control, size_t control_len, uint8_t *array,
-                    size_t array_len, uint8_t *cache, size_t cache_len, uint64_t page, uint64_t allowance, uint8_t *numbers,
-                    size_t numbers_len)
+uint32_t NAME(turn)(const uint8_t *keys, uint64_t keys_len, uint8_t *control, uint64_t control_len, uint8_t *array,
+                    uint64_t array_len, uint8_t *cache, uint64_t cache_len, uint64_t page, uint64_t allowance, uint8_t *numbers,
+                    uint64_t numbers_len)
 {
     if (numbers_len != NV_NUMBERS_LENGTH)
         return NV_REFUSED + NV_BAD_BUFFER_LENGTH;
@@ -704,9 +704,9 @@ static uint32_t rebuild(const module *m, uint8_t *built, uint64_t *sum, uint64_t
     return root == get64(m->control + ROOT_AT) ? 0 : NV_BAD_ROOT;
 }
 
-uint32_t NAME(recover)(const uint8_t *keys, size_t keys_len, uint8_t *control, size_t control_len, uint8_t *array,
-                       size_t array_len, uint8_t *cache, size_t cache_len, uint64_t allowance, uint8_t *numbers,
-                       size_t numbers_len)
+uint32_t NAME(recover)(const uint8_t *keys, uint64_t keys_len, uint8_t *control, uint64_t control_len, uint8_t *array,
+                       uint64_t array_len, uint8_t *cache, uint64_t cache_len, uint64_t allowance, uint8_t *numbers,
+                       uint64_t numbers_len)
 {
     if (numbers_len != NV_NUMBERS_LENGTH)
         return NV_REFUSED + NV_BAD_BUFFER_LENGTH;
@@ -738,8 +738,8 @@ static void exchange(uint64_t *a, uint64_t *b)
     *b = high;
 }
 
-uint32_t NAME(dirty_pages)(const uint8_t *control, size_t control_len, const uint8_t *cache, size_t cache_len,
-                           uint8_t *list, size_t list_len, uint8_t *numbers, size_t numbers_len)
+uint32_t NAME(dirty_pages)(const uint8_t *control, uint64_t control_len, const uint8_t *cache, uint64_t cache_len,
+                           uint8_t *list, uint64_t list_len, uint8_t *numbers, uint64_t numbers_len)
 {
     if (numbers_len != NV_NUMBERS_LENGTH)
         return NV_REFUSED + NV_BAD_BUFFER_LENGTH;

@@ -51,7 +51,7 @@ class Library:
             function = getattr(library, "nv_" + name)
             function.restype = ctypes.c_uint32
             function.argtypes = [kind for part in parts for kind in
-                                 ([ctypes.c_uint64] if part in COUNTS else [ctypes.c_void_p, ctypes.c_size_t])]
+                                 ([ctypes.c_uint64] if part in COUNTS else [ctypes.c_void_p, ctypes.c_uint64])]
             self.functions[name] = function
         self.room = None
         self.calls = 0

@@ -63,12 +63,9 @@ static inline void copy_module(const module *to, const module *from)
     memcpy(to->cache, from->cache, from->cache_len);
 }
 
-static inline uint64_t number_at(const module *m, int at)
+static inline uint64_t number_at(const module *m, uint64_t at)
 {
-    uint64_t x = 0;
-    for (int i = 7; i >= 0; i--)
-        x = x << 8 | m->numbers[at + i];
-    return x;
+    return nv_number(m->numbers, at);
 }
 
 static inline uint32_t call_format(const module *m)

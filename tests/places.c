@@ -57,20 +57,12 @@ static void text_of(uint64_t line, uint8_t *text)
         text[i] = (uint8_t)(line >> 8 * (i & 1)) ^ (uint8_t)i;
 }
 
-static uint64_t owner_of(const uint8_t *slot)
-{
-    uint64_t owner = 0;
-    for (int i = 7; i >= 0; i--)
-        owner = owner << 8 | slot[i];
-    return owner;
-}
-
 // Whether each node of a line's path is in its slot.
 static int in_slots(const module *m, const spot *s)
 {
     int all = 1;
     for (unsigned l = 0; l <= m->depth; l++)
-        all &= owner_of(m->cache + SLOT * s->slot[l]) == s->node[l] + 1;
+        all &= nv_number(m->cache, SLOT * s->slot[l]) == s->node[l] + 1;
     return all;
 }
 

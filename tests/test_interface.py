@@ -1,7 +1,9 @@
-"""The header and the static library that NV_ARCHIVE names: dialects, constants, symbols, instructions, C++, null pointers."""
+"""The header and the static library that NV_ARCHIVE names: dialects, C++, constants, words, symbols, instructions, null
+pointers."""
 
 import os
 import re
+import shutil
 import subprocess
 import sys
 import tempfile
@@ -10,42 +12,81 @@ import model
 from library import COUNTS, Library, SEQUENCES, SLICES, Tally
 from states import DEPTHS, KEYS, formatted
 
-HEADER = os.path.join(os.path.dirname(os.path.abspath(__file__)), "..", "include", "nightvelvet.h")
-ALLOWED = {"memcpy", "memmove", "memset", "memcmp"}
+HERE = os.path.dirname(os.path.abspath(__file__))
+INCLUDE = os.path.join(HERE, "..", "include")
+HEADER = "nightvelvet.h"
+ASKED = {"memcpy", "memset"}
 LENT_FOR_READING = {"keys", "text"}
-DIALECTS = (("gcc", "c99"), ("gcc", "c11"), ("g++", "c++17"))
+COMPILERS = {"c": ("gcc", "clang"), "c++": ("g++", "clang++")}  # the second of each if it is installed
+DIALECTS = (("c", "c99"), ("c", "c11"), ("c++", "c++17"), ("c++", "c++20"))
+STRICT = ("-Wall", "-Wextra", "-Wpedantic", "-Wconversion", "-Wsign-conversion", "-Wshadow", "-Werror")
+REFUSALS = list(range(1, 8)) + list(range(21, 33))
 DIVISION = re.compile(r"\bv?(?:i|f|fi)?div\w*")
 DIVIDED = [("%sint%d_t" % (sign, bits), operator) for sign in ("", "u") for bits in (8, 16, 32, 64) for operator in "/%"]
 DIVIDED += [(kind, "/") for kind in ("float", "double", "long double")]
 
-PROGRAM = """#include "%s"
+# The plain calls, with codes in a comparison and in a `case`, and constants that are joined.
+PROGRAM = """#include "nightvelvet.h"
 #include <string.h>
+#if NV_VERSION < 5
+#error
+#endif
 static uint8_t control[NV_CONTROL_LENGTH], array[NV_ARRAY_LENGTH_1], cache[NV_CACHE_LENGTH_1], text[NV_TEXT_LENGTH],
     out[NV_TEXT_LENGTH], list[NV_LIST_LENGTH], numbers[NV_NUMBERS_LENGTH], keys[NV_KEYS_LENGTH];
+static int kind_of(uint32_t code)
+{
+    switch (code) {
+    case NV_DONE:
+    case NV_BLANK:
+        return 1;
+    case NV_REFUSED + NV_BAD_LINE:
+        return 2;
+    default:
+        return 0;
+    }
+}
 int main(void)
 {
     text[0] = 7;
     return nv_format(1, keys, sizeof keys, control, sizeof control, array, sizeof array, cache, sizeof cache, numbers,
                      sizeof numbers) != NV_DONE
+        || control[NV_DEPTH_AT] != 1
         || nv_write(keys, sizeof keys, control, sizeof control, array, sizeof array, cache, sizeof cache, 3, text,
                     sizeof text, UINT64_MAX, numbers, sizeof numbers) != NV_DONE
-        || numbers[NV_STORES_AT] != 9
+        || nv_number(numbers, NV_STORES_AT) != 9
         || nv_recover(keys, sizeof keys, control, sizeof control, array, sizeof array, cache, sizeof cache, 0, numbers,
                       sizeof numbers) != NV_DONE
-        || numbers[NV_SUM_AT] != 1
-        || nv_read(keys, sizeof keys, control, sizeof control, array, sizeof array, cache, sizeof cache, 3, out,
-                   sizeof out, 0, numbers, sizeof numbers) != NV_DONE
+        || nv_number(numbers, NV_SUM_AT) != 1
+        || kind_of(nv_read(keys, sizeof keys, control, sizeof control, array, sizeof array, cache, sizeof cache, 3, out,
+                           sizeof out, 0, numbers, sizeof numbers)) != 1
         || memcmp(out, text, sizeof out) != 0
         || nv_turn(keys, sizeof keys, control, sizeof control, array, sizeof array, cache, sizeof cache, 0, UINT64_MAX,
                    numbers, sizeof numbers) != NV_DONE
-        || numbers[NV_STORES_AT] != 7 || control[NV_TURN_AT] != 0
-        || nv_turn(keys, sizeof keys, control, sizeof control, array, sizeof array, cache, sizeof cache, NV_LINES_1 / 64,
-                   0, numbers, sizeof numbers) != (uint32_t)NV_REFUSED + NV_BAD_LINE
-        || nv_read(keys, sizeof keys, control, sizeof control, array, sizeof array, cache, sizeof cache, NV_LINES_1,
-                   out, sizeof out, 0, numbers, sizeof numbers) != (uint32_t)NV_REFUSED + NV_BAD_LINE
+        || nv_number(numbers, NV_STORES_AT) != 7 || control[NV_TURN_AT] != 0
+        || nv_turn(keys, sizeof keys, control, sizeof control, array, sizeof array, cache, sizeof cache,
+                   NV_LINES_1 / NV_PAGE_LINES, 0, numbers, sizeof numbers) != NV_REFUSED + NV_BAD_LINE
+        || kind_of(nv_read(keys, sizeof keys, control, sizeof control, array, sizeof array, cache, sizeof cache, NV_LINES_1,
+                           out, sizeof out, 0, numbers, sizeof numbers)) != 2
+        || strcmp(nv_word(NV_REFUSED + NV_BAD_LINE), "the module has no such line or page") != 0
         || nv_dirty_pages(control, sizeof control, cache, sizeof cache, list, sizeof list, numbers, sizeof numbers)
             != NV_DONE
-        || list[0] != 0xff;
+        || nv_number(list, 0) != UINT64_MAX;
+}
+"""
+
+# The value of each constant, the word of each code, and numbers of all bytes.
+TELLING = """#include "nightvelvet.h"
+#include <inttypes.h>
+#include <stdio.h>
+int main(void)
+{
+    static const uint8_t bytes[] = { 0xff, 1, 2, 3, 4, 5, 6, 7, 0x88, 0xff };
+    %s
+    for (uint32_t code = 0; code < 300; code++)
+        printf("word %%" PRIu32 " %%s\\n", code, nv_word(code));
+    printf("word %%" PRIu32 " %%s\\n", UINT32_MAX, nv_word(UINT32_MAX));
+    for (uint64_t at = 0; at < 3; at++)
+        printf("number %%" PRIu64 " %%" PRIu64 "\\n", at, nv_number(bytes, at));
 }
 """
 
@@ -55,22 +96,35 @@ def run(*command):
     return done.returncode, done.stdout + done.stderr
 
 
+def compilers():
+    """(compiler, language, dialect): gcc in every dialect, and clang if it is there."""
+    for language, dialect in DIALECTS:
+        for compiler in COMPILERS[language]:
+            if compiler == COMPILERS[language][0] or shutil.which(compiler):
+                yield compiler, language, dialect
+
+
+def build(work, compiler, language, dialect, name, source, *archive):
+    """Compiles a source, with an archive as a program; gives what the compiler says and the program."""
+    path = os.path.join(work, name + ".c")
+    with open(path, "w") as file:
+        file.write(source)
+    program = os.path.join(work, "%s.%s.%s" % (name, compiler, dialect))
+    linked = ("-x", "none", *archive) if archive else ("-c",)
+    status, said = run(compiler, "-std=" + dialect, *STRICT, "-I", INCLUDE, "-x", language, path, *linked, "-o", program)
+    return said or (status and "status %d" % status), program
+
+
 def dialects(tally, archive, work):
-    """The header alone, twice, and in a program linked with the library."""
-    for compiler, dialect in DIALECTS:
-        suffix = "cpp" if compiler == "g++" else "c"
-        flags = ("-std=" + dialect, "-Wall", "-Wextra", "-Wpedantic", "-Werror")
-        for what, source in (("header", '#include "%s"\n#include "%s"\ntypedef int unit;\n' % (HEADER, HEADER)),
-                             ("program", PROGRAM % HEADER)):
-            path = os.path.join(work, "%s.%s" % (what, suffix))
-            with open(path, "w") as file:
-                file.write(source)
-            status, said = run(compiler, *flags, "-c", path, "-o", path + ".o")
-            tally.check(status == 0 and not said, "%s as %s: %s" % (what, dialect, said))
-        status, said = run(compiler, path + ".o", archive, "-o", path + ".run")
-        tally.check(status == 0, "linking as %s: %s" % (dialect, said))
-        tally.check(status == 0 and run(path + ".run")[0] == 0, "the program as %s" % dialect)
-    print("interface: the header compiles without a warning as %s" % ", ".join(d for _, d in DIALECTS))
+    """The header alone, twice, and the calls in a program that is run."""
+    for compiler, language, dialect in compilers():
+        where = "%s as %s" % (compiler, dialect)
+        said, _ = build(work, compiler, language, dialect, "header", 2 * ('#include "%s"\n' % HEADER) + "typedef int unit;\n")
+        tally.check(not said, "the header with %s: %s" % (where, said))
+        said, program = build(work, compiler, language, dialect, "program", PROGRAM, archive)
+        tally.check(not said, "a program with %s: %s" % (where, said))
+        tally.check(not said and run(program)[0] == 0, "a program with %s does not run" % where)
+    print("interface: the header compiles without a warning with %s" % ", ".join("%s as %s" % (c, d) for c, _, d in compilers()))
 
 
 def prototypes(text):
@@ -82,7 +136,7 @@ def prototypes(text):
         for argument in (" ".join(a.split()) for a in inner.split(",")):
             kind, part = re.fullmatch(r"(.*?)(\w+)", argument).groups()
             if part.endswith("_len"):
-                assert kind == "size_t " and parts[-1] == part[:-4], argument
+                assert kind == "uint64_t " and parts[-1] == part[:-4], argument
                 continue
             parts.append(part)
             assert kind in (("uint64_t ",) if part in COUNTS else ("const uint8_t *", "uint8_t *")), argument
@@ -101,22 +155,48 @@ def signatures(tally, text):
         tally.check(lent == wanted, "nv_%s: const %s" % (name, sorted(lent)))
 
 
-def constants(tally, text):
-    values = {name: int(value) for name, value in re.findall(r"\b(NV_\w+) = (\d+)", text)}
-    wanted = {"NV_KEYS_LENGTH": 48, "NV_CONTROL_LENGTH": 681, "NV_TEXT_LENGTH": 64, "NV_LIST_LENGTH": 32,
-              "NV_NUMBERS_LENGTH": 24, "NV_DONE": 0, "NV_BLANK": 1, "NV_CUT": 2, "NV_REFUSED": 100, "NV_BLANK_BYTE": 255,
-              "NV_TURN_AT": 664, "NV_TURN_PAGE_AT": 665}
+def constants(tally, text, told):
+    """The header's constants, as a C program tells them, held to the model."""
+    values = {name: int(value) for name, value in re.findall(r"^constant (\w+) (\d+)$", told, re.M)}
+    wanted = {"NV_VERSION": 5, "NV_KEYS_LENGTH": model.KEYS_LENGTH, "NV_CONTROL_LENGTH": model.CONTROL_LENGTH,
+              "NV_TEXT_LENGTH": model.CONTENT, "NV_LIST_LENGTH": model.LIST_LENGTH, "NV_NUMBERS_LENGTH": 24,
+              "NV_PAGE_LINES": model.lines(1) // model.pages(1), "NV_BLANK_BYTE": model.BLANK_TEXT[0], "NV_DEPTH_AT": model.DEPTH_AT,
+              "NV_TURN_AT": model.TURN_AT, "NV_TURN_PAGE_AT": model.TURN_PAGE_AT, "NV_STORES_AT": 0, "NV_SUM_AT": 8,
+              "NV_FIRST_AT": 8, "NV_SECOND_AT": 16, "NV_DONE": 0, "NV_BLANK": 1, "NV_CUT": 2, "NV_REFUSED": 100}
     for depth in DEPTHS:
         wanted["NV_ARRAY_LENGTH_%d" % depth] = model.array_length(depth)
         wanted["NV_CACHE_LENGTH_%d" % depth] = model.cache_length(depth)
         wanted["NV_LINES_%d" % depth] = model.lines(depth)
     for name, value in wanted.items():
         tally.check(values.get(name) == value, "%s is %s" % (name, values.get(name)))
-    refusals = text[text.index("// Numbers of refusals."):text.index("// Numbers of an answer")]
-    numbers = [int(value) for value in re.findall(r"NV_\w+ = (\d+)", refusals)]
-    tally.check(numbers == list(range(1, 8)) + list(range(21, 33)), "refusal numbers %s" % numbers)
+    others = sorted(value for name, value in values.items() if name not in wanted)
+    tally.check(others == REFUSALS, "refusal numbers %s" % others)
     lines = [line for line in text.split("\n") if re.match(r"\s+NV_\w+ = ", line)]
-    tally.check(all("//" in line for line in lines), "a constant without its meaning")
+    tally.check(len(lines) == len(values) - 1 and all("//" in line for line in lines), "a constant without its meaning")
+
+
+def words(tally, told):
+    """Each code has a word of its own, and all other numbers share one."""
+    found = {int(code): word for code, word in re.findall(r"^word (\d+) (.+)$", told, re.M)}
+    codes = [0, 1, 2] + [100 + number for number in REFUSALS]
+    none = found.get(2**32 - 1)
+    tally.check(none and all(found.get(code) == none for code in range(300) if code not in codes), "words of no code")
+    tally.check(len({found.get(code) for code in codes} | {none}) == len(codes) + 1, "words of codes: %s" % found)
+    tally.check([found.get(code) for code in (0, 1, 2)] == ["done", "blank", "cut"], "words of answers")
+    numbers = re.findall(r"^number \d+ (\d+)$", told, re.M)
+    wanted = [int.from_bytes(bytes.fromhex("ff0102030405060788ff")[at:at + 8], "little") for at in range(3)]
+    tally.check([int(number) for number in numbers] == wanted, "nv_number gives %s" % numbers)
+
+
+def telling(tally, text, work):
+    names = re.findall(r"^\s+(NV_\w+) = ", text, re.M) + ["NV_VERSION"]
+    lines = ['printf("constant %s %%lld\\n", (long long)%s);' % (name, name) for name in names]
+    for language, dialect in DIALECTS[::3]:
+        said, program = build(work, COMPILERS[language][0], language, dialect, "telling", TELLING % "\n    ".join(lines), "-lc")
+        tally.check(not said, "telling as %s: %s" % (dialect, said))
+        told = "" if said else run(program)[1]
+        constants(tally, text, told)
+        words(tally, told)
 
 
 def symbols(tally, archive):
@@ -126,7 +206,7 @@ def symbols(tally, archive):
     asked = set(re.findall(r"^\s+[Uw] (\S+)$", undefined, re.M)) - given
     functions = {"nv_" + name for name in SEQUENCES}
     tally.check(given == functions, "the library defines %s" % sorted(given ^ functions))
-    tally.check(asked <= ALLOWED, "the library asks for %s" % sorted(asked - ALLOWED))
+    tally.check(asked == ASKED, "the library asks for %s" % sorted(asked))
     print("interface: the library defines %s; asks for %s" % (" ".join(sorted(given)), " ".join(sorted(asked)) or "nothing"))
 
 
@@ -188,13 +268,13 @@ def main():
     if not archive:
         sys.exit("NV_ARCHIVE does not name the static library (tools/test builds it)")
     tally = Tally("interface")
-    with open(HEADER) as file:
+    with open(os.path.join(INCLUDE, HEADER)) as file:
         text = file.read()
     with tempfile.TemporaryDirectory() as work:
         dialects(tally, archive, work)
+        telling(tally, text, work)
         without_division(tally, archive, work)
     signatures(tally, text)
-    constants(tally, text)
     symbols(tally, archive)
     null_pointers(tally, Library())
     tally.finish()
