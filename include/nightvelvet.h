@@ -2,7 +2,8 @@
 //
 // A module is an array of encrypted cells and a control record, which outlast a power failure, and a cache, which need
 // not. Firmware lends all three to each call as slices, a pointer and a length. The library keeps nothing between calls,
-// allocates nothing and asks for memcpy and memset alone. docs/FIRMWARE.md says how to use it.
+// allocates nothing and asks for memcpy and memset alone. docs/FIRMWARE.md says how to use it; nightvelvet_module.h has
+// the same calls over a struct.
 //
 // The worst that can happen:
 //   - WRONG PAD KEYS ARE NOT REFUSED. Of the keys only bytes 32 to 47, for the tags, are checked (24, 25, 29). With wrong

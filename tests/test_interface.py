@@ -1,4 +1,4 @@
-"""The header and the static library that NV_ARCHIVE names: dialects, C++, constants, words, symbols, instructions, null
+"""The headers and the static library that NV_ARCHIVE names: dialects, C++, constants, words, symbols, instructions, null
 pointers."""
 
 import os
@@ -14,7 +14,7 @@ from states import DEPTHS, KEYS, formatted
 
 HERE = os.path.dirname(os.path.abspath(__file__))
 INCLUDE = os.path.join(HERE, "..", "include")
-HEADER = "nightvelvet.h"
+HEADERS = ("nightvelvet.h", "nightvelvet_module.h")
 ASKED = {"memcpy", "memset"}
 LENT_FOR_READING = {"keys", "text"}
 COMPILERS = {"c": ("gcc", "clang"), "c++": ("g++", "clang++")}  # the second of each if it is installed
@@ -116,15 +116,23 @@ def build(work, compiler, language, dialect, name, source, *archive):
 
 
 def dialects(tally, archive, work):
-    """The header alone, twice, and the calls in a program that is run."""
+    """Each header alone, twice, and both in either sequence; the plain calls and the forms in programs that are run."""
+    include = '#include "%s"\n'
+    sources = {name.split(".")[0]: 2 * (include % name) for name in HEADERS}
+    sources["together"] = "".join(include % name for name in HEADERS)
+    sources["module_first"] = "".join(include % name for name in reversed(HEADERS))
+    with open(os.path.join(HERE, "module_forms.c")) as file:
+        forms = file.read().replace('"../include/', '"')
     for compiler, language, dialect in compilers():
         where = "%s as %s" % (compiler, dialect)
-        said, _ = build(work, compiler, language, dialect, "header", 2 * ('#include "%s"\n' % HEADER) + "typedef int unit;\n")
-        tally.check(not said, "the header with %s: %s" % (where, said))
-        said, program = build(work, compiler, language, dialect, "program", PROGRAM, archive)
-        tally.check(not said, "a program with %s: %s" % (where, said))
-        tally.check(not said and run(program)[0] == 0, "a program with %s does not run" % where)
-    print("interface: the header compiles without a warning with %s" % ", ".join("%s as %s" % (c, d) for c, _, d in compilers()))
+        for name, source in sources.items():
+            said, _ = build(work, compiler, language, dialect, name, source + "typedef int unit;\n")
+            tally.check(not said, "%s with %s: %s" % (name, where, said))
+        for name, source in (("program", PROGRAM), ("module_forms", forms)):
+            said, program = build(work, compiler, language, dialect, name, source, archive)
+            tally.check(not said, "%s with %s: %s" % (name, where, said))
+            tally.check(not said and run(program)[0] == 0, "%s with %s does not run" % (name, where))
+    print("interface: the headers compile without a warning with %s" % ", ".join("%s as %s" % (c, d) for c, _, d in compilers()))
 
 
 def prototypes(text):
@@ -268,7 +276,7 @@ def main():
     if not archive:
         sys.exit("NV_ARCHIVE does not name the static library (tools/test builds it)")
     tally = Tally("interface")
-    with open(os.path.join(INCLUDE, HEADER)) as file:
+    with open(os.path.join(INCLUDE, HEADERS[0])) as file:
         text = file.read()
     with tempfile.TemporaryDirectory() as work:
         dialects(tally, archive, work)
