@@ -1,9 +1,19 @@
-"""The book of the paper's history rule, and its clauses after a done recovery, checked on the library's module."""
+"""The book of the paper's history rule, and its clauses after a done recovery, checked on the library's module.
+
+Reads of all lines are made by tests/readback.c, as the shared object that NV_READBACK names.
+"""
+
+import ctypes
+import os
+import sys
+from functools import lru_cache
 
 import model
 from library import BLANK, DONE, REFUSED
 
 UNWRITTEN = bytes([255] * 64)
+BEFORE = b"\xa5" * 64  # in the output, as readback.c has it
+ROW = 1 + 64  # code and text of a line, for readback.c
 
 
 class Book:
@@ -124,39 +134,52 @@ def wanted_of_read(book, line, before):
     return (DONE, book.texts[line]) if line in book.texts else (BLANK, UNWRITTEN)
 
 
-def read_faults(book, session, lines):
-    """The lines whose read as the next call does not give the book's text; the session stays as it was."""
-    kept = session.keep_all_but_data()
-    before = b"\xa5" * 64
-    for line in lines:
-        session.put("out", before)
-        code, stores, first, second = session.read(line)
-        text = session.get("out")
-        if (code, text) != wanted_of_read(book, line, before) or first or second:
-            yield "a read of line %d gave %d %s" % (line, code, text[:8].hex())
-        if stores:
-            session.restore(kept)
-            again = session.read(line, stores)
-            if (again[0], again[1], session.get("out")) != (code, stores, text):
-                yield "a read of line %d under an allowance of its %d stores" % (line, stores)
-            session.restore(kept)
+@lru_cache(maxsize=None)
+def first_misread():
+    """The function of this name in tests/readback.c."""
+    path = os.environ.get("NV_READBACK")
+    if not path:
+        sys.exit("NV_READBACK does not name tests/readback.c as a shared object (tools/test builds it)")
+    function = ctypes.CDLL(os.path.abspath(path)).first_misread
+    function.restype = ctypes.c_uint64
+    pointer, length = ctypes.c_void_p, ctypes.c_size_t
+    function.argtypes = [pointer, pointer, pointer, pointer, length, pointer, length, ctypes.c_uint64, pointer]
+    return function
 
 
-def lines_near(book, depth):
-    """Every written line, those beside it, and some of each corner of the module."""
-    last = model.lines(depth) - 1
-    chosen = {0, 1, 63, 64, 255, 256, last // 2, last}
-    chosen.update(book.texts)
-    chosen.update(min(line + 1, last) for line in list(book.texts)[:8])
-    return sorted(chosen)
+@lru_cache(maxsize=None)
+def blank_rows(depth):
+    return (bytes([BLANK]) + UNWRITTEN) * model.lines(depth)
 
 
-def faults_after_recovery(book, session, keys, told, every_line=False):
+def rows_of(book, depth):
+    """What the read of each line as the next call gives: code and output."""
+    rows = bytearray(blank_rows(depth))
+    for line, text in book.texts.items():
+        rows[ROW * line:ROW * (line + 1)] = bytes([DONE]) + text
+    if book.open_page is not None:
+        start = ROW * 64 * book.open_page
+        rows[start:start + ROW * 64] = (bytes([REFUSED + 30]) + BEFORE) * 64
+    return rows
+
+
+def read_fault(book, session):
+    """The first line whose read as the next call does not give the book's text, or None; all lines are read."""
+    lines, at = model.lines(session.depth), session.at
+    rows = rows_of(book, session.depth)
+    line = first_misread()(ctypes.cast(session.functions["read"], ctypes.c_void_p), at["keys"], at["control"], at["array"],
+                           session.lengths["array"], at["cache"], session.lengths["cache"], lines,
+                           (ctypes.c_char * len(rows)).from_buffer(rows))
+    return "a read of line %d does not give the book's text" % line if line < lines else None
+
+
+def faults_after_recovery(book, session, keys, told):
     """All clauses of the history rule that fail after a done recovery."""
     module = session.module()
     faults = list(tree_faults(book, keys, session.depth, module, told))
-    lines = range(model.lines(session.depth)) if every_line else lines_near(book, session.depth)
-    faults += read_faults(book, session, lines)
-    if session.module() != module:
+    fault = read_fault(book, session)
+    if fault:
+        faults.append(fault)
+    elif session.module() != module:
         faults.append("reads left more than they may")
     return faults

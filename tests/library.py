@@ -145,14 +145,13 @@ class Session:
             self.at[part] = at
             at += self.lengths[part]
         self.put("keys", keys)
-        self.tail = model.CELL * model.lines(depth)
 
-    def put(self, part, data, offset=0):
-        assert offset + len(data) <= self.lengths[part]
-        ctypes.memmove(self.at[part] + offset, data, len(data))
+    def put(self, part, data):
+        assert len(data) <= self.lengths[part]
+        ctypes.memmove(self.at[part], data, len(data))
 
-    def get(self, part, offset=0):
-        return ctypes.string_at(self.at[part] + offset, self.lengths[part] - offset)
+    def get(self, part):
+        return ctypes.string_at(self.at[part], self.lengths[part])
 
     def module(self):
         return model.Module(self.get("array"), self.get("control"), self.get("cache"))
@@ -162,23 +161,15 @@ class Session:
             assert len(data) == self.lengths[part]
             self.put(part, data)
 
-    def keep_all_but_data(self):
-        """Everything that a read may change of the module, and a way back to it."""
-        return self.get("array", self.tail), self.get("control"), self.get("cache")
-
-    def restore(self, kept):
-        self.put("array", kept[0], self.tail)
-        self.put("control", kept[1])
-        self.put("cache", kept[2])
-
     def guards_hold(self):
         return self.room.raw == image_of([self.get(part) for part in self.PARTS])
 
-    def make(self, name, **counts):
-        """Makes a call; gives its code, the stores made, and the two further numbers."""
+    def make(self, name, lengths={}, **counts):
+        """Makes a call, with these lengths in the place of right ones; gives its code, the stores made, and the two further
+        numbers."""
         passed = []
         for part in SEQUENCES[name]:
-            passed += (counts[part],) if part in COUNTS else (self.at[part], self.lengths[part])
+            passed += (counts[part],) if part in COUNTS else (self.at[part], lengths.get(part, self.lengths[part]))
         code = self.functions[name](*passed)
         return (code,) + tuple(model.number_at(self.get("numbers"), at) for at in (0, 8, 16))
 

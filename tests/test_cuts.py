@@ -80,7 +80,7 @@ class Cuts:
         self.tally.check(code == DONE, "%s: recovery gave %d" % (what, code))
         self.recoveries += 1
         self.session.load(after)
-        faults = faults_after_recovery(book, self.session, KEYS, told, self.depth == 1 and cuts_left == 2)
+        faults = faults_after_recovery(book, self.session, KEYS, told)
         self.tally.check(not faults, "%s: %s" % (what, faults[:3]))
         for allowance in range(stores if cuts_left else 0):
             code, (made, _, _), cut = self.call("recover", None, None, allowance, module)

@@ -11,6 +11,7 @@ import states
 from library import DONE, Library, NUMBERS, Tally
 
 LIST = b"\x5a" * 32
+STATES = {1: 5**4, 2: 8**4, 3: 8**4}
 
 
 def cache_of(depth, counters):
@@ -44,11 +45,13 @@ def hold(tally, library, depth, counters):
 
 def main():
     tally, library = Tally("dirty pages"), Library()
-    for counters in every_state():
-        hold(tally, library, 1, counters)
-    for depth in (2, 3):
-        for counters in every_combination(depth):
+    for depth in states.DEPTHS:
+        held = 0
+        for counters in every_state() if depth == 1 else every_combination(depth):
             hold(tally, library, depth, counters)
+            held += 1
+        tally.check(held == STATES[depth], "depth %d: %d states" % (depth, held))
+        print("dirty pages: depth %d: %d states of the counter slots" % (depth, held))
     tally.finish()
 
 

@@ -1,22 +1,50 @@
 """Histories through the library against the paper's history rule. The book is kept here, from the list alone.
 
-Random histories have any lines, pages, texts, allowances, refused calls and power cuts; small lists are gone through whole,
-with a cut after every store of every call, in recoveries too, and other caches after a cut. After each done recovery
-every clause of the rule is checked. An argument is another seed.
+Random histories have any lines, pages, texts, allowances and power cuts, and calls that are refused without a store, some of
+them with other keys of 48 bytes; small lists are gone through whole, with a cut after every store of every call, in recoveries
+too, and other caches after a cut. After each done recovery every clause of the rule is checked, the texts of all lines too.
+An argument is another seed.
 """
 
 import random
 import sys
+from collections import Counter
 
 import model
 import states
 from book import Book, commits, faults_after_recovery, wanted_of_read
-from library import CUT, DONE, Library, NUMBERS, REFUSED, Session, Tally, in_parallel
+from library import CUT, DONE, Library, REFUSED, Session, Tally, in_parallel
 from model import UNLIMITED
 from states import KEYS, text_of
 
-RANDOM = {1: (300, 120), 2: (60, 90), 3: (12, 60)}  # histories and their lengths
+RANDOM = {1: (300, 120), 2: (100, 90), 3: (40, 80)}  # histories and their lengths
+# What lists of each kind must reach at each depth, whatever the seed: calls, those cut, recoveries after which the rule was
+# checked, turns finished, writes of worn lines refused.
+REACHED = ("calls", "cut", "recoveries", "turns", "worn")
+FLOORS = {
+    ("small", 1): (200000, 98000, 100000, 3900, 0),
+    ("random", 1): (40000, 1200, 4000, 2000, 0),
+    ("random", 2): (10000, 400, 1000, 450, 0),
+    ("random", 3): (3500, 150, 350, 150, 0),
+    ("worn", 1): (600, 100, 140, 3, 50),
+    ("worn", 2): (600, 100, 140, 3, 50),
+    ("worn", 3): (600, 100, 140, 3, 50),
+}
+# Calls of random lists that are refused without a store: each kind, its codes; and how many of each there must be at each depth.
+REFUSALS = {
+    "another depth": (101, 104),
+    "past the map": (106,),
+    "keys of another length": (102,),
+    "a buffer of another length": (105, 107),
+    "read with other keys": (124, 125, 130),
+    "write with other keys": (124, 130),
+    "turn with other keys": (124, 125, 130),
+    "recover with other keys": (129,),
+}
+REFUSED_AT_LEAST = {1: 1000, 2: 400, 3: 120}
 MOST_STORES = 19
+UNTOUCHED = b"\x5a" * 64
+SQUARES = bytes(i * i % 251 for i in range(730))
 # Small lists: lines written before, their length, the events, and how many cuts recovery may meet in a row.
 SMALL = (
     ((), 2, (("write", 0), ("write", 1), ("write", 256), ("write", 320), ("read", 0), ("read", 257)), 2),
@@ -35,13 +63,17 @@ class Rule:
         self.scratch = Session(self.library, depth, KEYS)
         self.depth = depth
         self.tally = Tally("histories")
-        self.recoveries = self.calls = self.cuts = 0
+        self.reached = Counter()
         self.start()
 
     def start(self):
         code = self.session.make("format", depth=self.depth)[0]
         self.tally.check(code == DONE, "format gave %d" % code)
         self.book = Book()
+
+    def note(self, code):
+        self.reached["calls"] += 1
+        self.reached["cut"] += code == CUT
 
     def stores_of_whole(self, line, text):
         """The stores that a write makes from here with stores enough."""
@@ -52,11 +84,11 @@ class Rule:
         whole = self.stores_of_whole(line, text) if allowance < MOST_STORES else 0
         refused = REFUSED + 30 if self.book.open_page == line // 64 else 126 if self.book.counts.get(line) == 127 else None
         code, stores, _, _ = self.session.write(line, text, allowance)
-        self.calls += 1
+        self.note(code)
+        self.reached["worn"] += code == 126
         self.tally.check(code == refused if refused else code in (DONE, CUT), "a write of line %d gave %d" % (line, code))
         if code == DONE or code == CUT and commits(stores, whole):
             self.book.commit(line, text)
-        self.cuts += code == CUT
         if code == CUT:
             self.tally.check(stores == allowance < whole, "a write of %d stores cut after %d of %d" % (whole, stores, allowance))
         elif code == DONE and whole:
@@ -68,40 +100,39 @@ class Rule:
         whole = self.scratch.turn(page)[1]
         refused = self.book.open_page not in (None, page)
         code, stores, first, second = self.session.turn(page, allowance)
-        self.calls += 1
+        self.note(code)
         self.tally.check(code == REFUSED + 30 if refused else code == (DONE if whole <= allowance else CUT),
                          "a turn of page %d gave %d" % (page, code))
         self.tally.check((stores, first, second) == (0 if refused else min(whole, allowance), 0, 0),
                          "a turn of %d stores made %d under %d" % (whole, stores, allowance))
         if not refused:
+            before = self.book.turns.get(page, 0)
             self.book.turn(page, stores, whole)
-        self.cuts += code == CUT
+            self.reached["turns"] += self.book.turns.get(page, 0) - before
         return code
 
     def read(self, line, allowance):
         """A read gives the book's text at any time, not only after a recovery; on an open page it is refused."""
-        self.session.put("out", b"\x5a" * 64)
+        self.session.put("out", UNTOUCHED)
         code, stores, _, _ = self.session.read(line, allowance)
-        self.calls += 1
+        self.note(code)
         out = self.session.get("out")
-        self.cuts += code == CUT
         if code == CUT:
-            self.tally.check(stores == allowance and out == b"\x5a" * 64, "a read of line %d cut" % line)
+            self.tally.check(stores == allowance and out == UNTOUCHED, "a read of line %d cut" % line)
         elif line < model.lines(self.depth):
-            wanted = wanted_of_read(self.book, line, b"\x5a" * 64)
+            wanted = wanted_of_read(self.book, line, UNTOUCHED)
             self.tally.check((code, out) == wanted, "a read of line %d gave %d" % (line, code))
         return code
 
-    def recover(self, allowance, every_line=False):
+    def recover(self, allowance):
         code, stores, told, _ = self.session.recover(allowance)
-        self.calls += 1
+        self.note(code)
         self.tally.check(code in (DONE, CUT), "recovery refused: %d" % code)
-        self.cuts += code == CUT
         if code == CUT:
             self.tally.check(stores == allowance, "recovery cut after %d of %d" % (stores, allowance))
         if code == DONE:
-            self.recoveries += 1
-            faults = faults_after_recovery(self.book, self.session, KEYS, told, every_line)
+            self.reached["recoveries"] += 1
+            faults = faults_after_recovery(self.book, self.session, KEYS, told)
             self.tally.check(not faults, "after recovery: %s" % faults[:3])
         return code
 
@@ -123,25 +154,53 @@ def any_cache(rng, rule):
                        states.patched(old, slot, rng.randbytes(model.SLOT_LENGTH)), old[::-1]])
 
 
-def refused_call(rng, rule):
-    """A call that is refused without a store, with other keys too; it changes neither module nor book."""
-    session = rule.session
-    before = session.module()
-    parts = (before.control, before.array, before.cache)
-    style = rng.randrange(4)
-    if style == 0:
-        others = [0, 4, 2**64 - 1] + [depth for depth in states.DEPTHS if depth != rule.depth]
-        code = session.make("format", depth=rng.choice(others))[0]
-    elif style == 1:
-        code = session.write(rng.choice([model.lines(rule.depth), 2**64 - 1]), text_of(1), UNLIMITED)[0]
-    elif style == 2:
-        keys = rng.randbytes(rng.choice([0, 47, 49]))
-        code, slices = rule.library.call("write", keys, *parts, 0, text_of(1), UNLIMITED, NUMBERS)
-        rule.tally.check(tuple(slices[1:4]) == parts, "a refused call changed the module")
-    else:
-        code, slices = rule.library.call("recover", KEYS, *parts, UNLIMITED, NUMBERS[1:])
-        rule.tally.check(tuple(slices[1:4]) == parts, "a refused call changed the module")
-    rule.tally.check(code > REFUSED and session.module() == before, "a call that must be refused gave %d" % code)
+def calls_to_refuse(rng, depth):
+    """A call of each kind but recovery's: kind, keys, name, lengths that are wrong, numbers."""
+    others = [0, 4, 2**64 - 1] + [other for other in states.DEPTHS if other != depth]
+    line, past = rng.randrange(model.lines(depth)), rng.choice([model.lines(depth), 2**32, 2**64 - 1])
+    some = rng.choice([KEYS, states.OTHER_PAD, states.OTHER_TAG, rng.randbytes(48)])
+    tags = rng.choice([KEYS[:32], rng.randbytes(32)]) + rng.choice([states.OTHER_TAG[32:], rng.randbytes(16)])
+    name = rng.choice(["read", "write", "turn"])
+    part = rng.choice(["numbers", {"read": "out", "write": "text", "turn": "cache"}[name]])
+    numbers = {"line": line, "page": line // 64, "allowance": rng.choice([0, UNLIMITED])}
+    yield "another depth", some, "format", {}, {"depth": rng.choice(others)}
+    yield "past the map", some, name, {}, {**numbers, "line": past, "page": past}
+    yield "keys of another length", some, name, {"keys": rng.choice([0, 47, 49])}, numbers
+    yield "a buffer of another length", some, name, {part: rng.choice([0, 23, 65])}, numbers
+    for name in ("read", "write", "turn"):
+        yield name + " with other keys", tags, name, {}, numbers
+
+
+def recovery_to_refuse(rng):
+    tags = KEYS[:32] + rng.randbytes(16)
+    yield "recover with other keys", tags, "recover", {}, {"allowance": rng.choice([0, UNLIMITED])}
+
+
+def with_keys(session, keys, name, lengths, numbers):
+    """What a call with these keys answers; the session's own stay."""
+    session.put("keys", keys)
+    session.put("out", UNTOUCHED)
+    session.put("numbers", bytes(24))
+    answer = session.make(name, lengths, **numbers)
+    session.put("keys", KEYS)
+    return answer
+
+
+def refused_calls(rule, calls):
+    """Makes calls that are refused without a store; they change neither module nor book. One with other keys is made only if
+    it is refused so on a copy of the module."""
+    for kind, *call in calls:
+        before = rule.session.module()
+        rule.scratch.load(before)
+        code, stores, *place = with_keys(rule.scratch, *call)
+        if kind.endswith("with other keys") and (code < REFUSED or stores):
+            continue
+        rule.tally.check(code in REFUSALS[kind] and stores == 0, "%s gave %d" % (kind, code))
+        rule.note(code)
+        rule.reached[kind] += 1
+        rule.tally.check(with_keys(rule.session, *call) == (code, 0, *place), "%s: not as on a copy" % kind)
+        rule.tally.check(rule.session.module() == before and rule.session.get("out") == UNTOUCHED,
+                         "%s: a refused call changed the module or its output" % kind)
 
 
 def dirty_pages(rule):
@@ -167,7 +226,8 @@ def random_history(rule, rng, length):
             if rng.randrange(2):
                 rule.session.put("cache", any_cache(rng, rule))
                 down = True
-            code = rule.recover(allowance if rng.randrange(2) else UNLIMITED, step % 40 == 0 and rule.depth < 3)
+            refused_calls(rule, recovery_to_refuse(rng))
+            code = rule.recover(allowance if rng.randrange(2) else UNLIMITED)
             down = code == CUT
             continue
         line = rng.choice(hot) if rng.randrange(8) else rng.randrange(model.lines(rule.depth))
@@ -181,9 +241,9 @@ def random_history(rule, rng, length):
         elif style < 9:
             dirty_pages(rule)
         else:
-            refused_call(rng, rule)
+            refused_calls(rule, calls_to_refuse(rng, rule.depth))
     rule.session.put("cache", any_cache(rng, rule))
-    rule.tally.check(rule.recover(UNLIMITED, True) == DONE, "the last recovery")
+    rule.tally.check(rule.recover(UNLIMITED) == DONE, "the last recovery")
     rule.tally.check(rule.session.guards_hold(), "guard bytes")
 
 
@@ -254,8 +314,7 @@ def small_lists(rule, events, alphabet, cuts_left, firsts=None):
 def every_recovery(rule, seed, cuts_left):
     """Power cuts here: recovery with some other cache, whole and cut after every store; leaves a recovered module."""
     length = model.cache_length(rule.depth)
-    caches = (rule.session.get("cache"), bytes(length), b"\xff" * length, bytes(i * i % 251 for i in range(length)))
-    rule.session.put("cache", caches[seed % 4])
+    rule.session.put("cache", (rule.session.get("cache"), bytes(length), b"\xff" * length, SQUARES[:length])[seed % 4])
     before = rule.state()
     pending = before[0].control[15]
     for allowance in range(pending + 2 if pending and cuts_left else 0):
@@ -263,7 +322,7 @@ def every_recovery(rule, seed, cuts_left):
         rule.tally.check(rule.recover(allowance) == CUT, "recovery not cut under %d" % allowance)
         every_recovery(rule, seed + allowance + 1, cuts_left - 1)
     rule.go_back(before)
-    rule.tally.check(rule.recover(UNLIMITED, rule.recoveries % 100 == 0) == DONE, "recovery not done")
+    rule.tally.check(rule.recover(UNLIMITED) == DONE, "recovery not done")
 
 
 def small_part(lines, events, alphabet, cuts_left, first):
@@ -279,7 +338,21 @@ def small_part(lines, events, alphabet, cuts_left, first):
 def work(job):
     kind, *rest = job
     depth, rule = {"random": random_part, "worn": worn_part, "small": small_part}[kind](*rest)
-    return kind, depth, rule.calls, rule.cuts, rule.recoveries, rule.tally.passed, rule.tally.failed
+    return kind, depth, rule.reached, rule.tally.passed, rule.tally.failed
+
+
+def check_reached(tally, kind, depth, reached):
+    """Says what the lists of one kind reached at a depth, and holds it to the floors."""
+    for what, floor in zip(REACHED, FLOORS[kind, depth]):
+        tally.check(reached[what] >= floor, "depth %d: lists (%s): %d %s" % (depth, kind, reached[what], what))
+    print("histories: depth %d: lists (%s): %d calls, %d of them cut, the rule checked after %d recoveries, %d lines read after "
+          "each, %d turns finished, %d writes of worn lines refused" % (
+              depth, kind, *(reached[what] for what in REACHED[:3]), model.lines(depth), *(reached[what] for what in REACHED[3:])))
+    if kind == "random":
+        for what in REFUSALS:
+            tally.check(reached[what] >= REFUSED_AT_LEAST[depth], "depth %d: refused calls, %s: %d" % (depth, what, reached[what]))
+        print("histories: depth %d: lists (random): refused without a store: %s" % (
+            depth, ", ".join("%d %s" % (reached[what], what) for what in REFUSALS)))
 
 
 def main():
@@ -289,12 +362,11 @@ def main():
     jobs += [("random", depth, 1000 * seed + 100 * depth + i) for depth in states.DEPTHS for i in range(RANDOM[depth][0])]
     jobs += [("worn", depth) for depth in states.DEPTHS]
     sums = {}
-    for kind, depth, *counts, passed, failed in in_parallel(work, jobs):
-        sums[kind, depth] = [a + b for a, b in zip(sums.get((kind, depth), (0, 0, 0)), counts)]
+    for kind, depth, reached, passed, failed in in_parallel(work, jobs):
+        sums[kind, depth] = sums.get((kind, depth), Counter()) + reached
         tally.add(passed, failed)
-    for (kind, depth), (calls, cuts, recoveries) in sums.items():
-        print("histories: depth %d: lists (%s): %d calls, %d of them cut, the rule checked after %d recoveries" % (
-            depth, kind, calls, cuts, recoveries))
+    for kind, depth in FLOORS:
+        check_reached(tally, kind, depth, sums[kind, depth])
     tally.finish()
 
 
