@@ -9,8 +9,10 @@ KEYS = bytes(range(48))
 OTHER_PAD = bytes([255]) + KEYS[1:]
 OTHER_TAG = KEYS[:47] + bytes([255])
 ALLOWANCES = tuple(range(20)) + (20, 2**32 - 1, 2**32, 2**63, UNLIMITED)
-MOST_STORES = 336  # of a turn
 DEPTHS = (1, 2, 3)
+# The most stores that each call makes at a depth: 2m + 3 of a batch of m cells, of a pending one m + 2. A turn has 62 batches of
+# one cell and one of two after its first.
+MOST_STORES = {h: {"read": 4 * h + 3, "write": 4 * h + 7, "turn": 4 * h + 324, "recover": 2 * h + 4} for h in DEPTHS}
 
 # The paper's bench listing.
 LISTING = "w 0 17,w 0 18,r 0,k 2,w 0 19,p,r 0,k 4,w 0 20,p,r 0,k 1,w 0 99,p,r 0,r 64".split(",")
@@ -291,7 +293,7 @@ def drawn_turn(rng, depth, module, hot):
         page = model.number_at(module.control, model.TURN_PAGE_AT)
     if rng.randrange(40) == 0:
         page = rng.choice([model.pages(depth), 2**32, 2**63, 2**64 - 1])
-    allowance = rng.choice([UNLIMITED, rng.choice(ALLOWANCES), rng.choice(ALLOWANCES), rng.randrange(MOST_STORES)])
+    allowance = rng.choice([UNLIMITED, rng.choice(ALLOWANCES), rng.choice(ALLOWANCES), rng.randrange(MOST_STORES[3]["turn"])])
     return page, allowance
 
 

@@ -43,13 +43,14 @@ class Cuts:
         self.session = Session(self.library, depth, KEYS)
         self.tally = Tally("cuts")
         self.cuts = self.recoveries = 0
-        self.most = 0
+        self.most = {"read": 0, "write": 0, "recover": 0}
 
     def call(self, name, line, text, allowance, module):
         """One call on both sides; gives its code, its numbers and the module after it."""
         between = (line, text) if name in ("read", "write") else ()
         arguments = (KEYS, module.control, module.array, module.cache) + between + (allowance, NUMBERS)
         code, slices = self.tally.compare(self.library, name, arguments)
+        self.most[name] = max(self.most[name], numbers_of(slices)[0])
         return code, numbers_of(slices), model.Module(slices[2], slices[1], slices[3])
 
     def scenario(self, what, before, name, line):
@@ -57,7 +58,6 @@ class Cuts:
         text = text_of(200)
         code, (whole, _, _), _ = self.call(name, line, text, UNLIMITED, module)
         self.tally.check(code != CUT, "%s: cut without a limit" % what)
-        self.most = max(self.most, whole)
         for allowance in range(whole + 3):
             code, (stores, _, _), after = self.call(name, line, text, allowance, module)
             expected = (CUT, allowance) if allowance < whole else (code, whole)
@@ -93,7 +93,8 @@ def at_depth(depth):
     cuts = Cuts(depth)
     for what, before, name, line in scenarios(depth):
         cuts.scenario(what, before, name, line)
-    cuts.tally.check(cuts.most == 2 * (2 * depth + 2) + 3, "depth %d: longest call %d stores" % (depth, cuts.most))
+    for name, most in cuts.most.items():
+        cuts.tally.check(most == states.MOST_STORES[depth][name], "depth %d: nv_%s made %d stores" % (depth, name, most))
     return depth, cuts.cuts, cuts.recoveries, cuts.most, cuts.tally.passed, cuts.tally.failed
 
 
@@ -122,7 +123,8 @@ def main():
     printed = model.bench(states.LISTING, run_by(Library()))
     tally.check(printed == states.PRINTED, "bench listing: %s" % printed)
     for depth, cuts, recoveries, most, passed, failed in in_parallel(at_depth, states.DEPTHS):
-        print("cuts: depth %d: %d cuts, %d recoveries from them, calls of up to %d stores" % (depth, cuts, recoveries, most))
+        print("cuts: depth %d: %d cuts, %d recoveries from them, stores at most: %s" % (
+            depth, cuts, recoveries, ", ".join("nv_%s %d" % call for call in most.items())))
         tally.add(passed, failed)
     tally.finish()
 

@@ -42,7 +42,6 @@ REFUSALS = {
     "recover with other keys": (129,),
 }
 REFUSED_AT_LEAST = {1: 1000, 2: 400, 3: 120}
-MOST_STORES = 19
 UNTOUCHED = b"\x5a" * 64
 SQUARES = bytes(i * i % 251 for i in range(730))
 # Small lists: lines written before, their length, the events, and how many cuts recovery may meet in a row.
@@ -81,7 +80,7 @@ class Rule:
         return self.scratch.write(line, text)[1]
 
     def write(self, line, text, allowance):
-        whole = self.stores_of_whole(line, text) if allowance < MOST_STORES else 0
+        whole = self.stores_of_whole(line, text) if allowance < states.MOST_STORES[self.depth]["write"] else 0
         refused = REFUSED + 30 if self.book.open_page == line // 64 else 126 if self.book.counts.get(line) == 127 else None
         code, stores, _, _ = self.session.write(line, text, allowance)
         self.note(code)

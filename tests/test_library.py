@@ -14,6 +14,7 @@ from model import Module
 
 CALLS = {1: 150000, 2: 20000, 3: 12000}
 PARTS = {1: 40, 2: 16, 3: 8}
+ANY_QUEUE = 8 + 2  # stores of a recovery from any queue, which may be longer than those that calls leave
 
 # The refusals of each call, as the paper lists them.
 REFUSALS = {
@@ -81,7 +82,7 @@ class Walk:
         if name in ("read", "write", "turn", "recover"):
             self.allowances.add((name, arguments[-2]))
             if code < 2:
-                self.stores.add((name == "turn", numbers_of(slices)[0]))
+                self.stores.add((name, numbers_of(slices)[0]))
 
     def next_module(self, name, code, module):
         """The state for the next call: after a cut, or when the module asks for it, mostly a recovered one."""
@@ -133,13 +134,11 @@ def check_reached(tally, depth, reached, allowances, stores):
     for name in ("read", "write", "turn", "recover"):
         missing = [a for a in states.ALLOWANCES if (name, a) not in allowances]
         tally.check(not missing, "depth %d: nv_%s not tried with allowances %s" % (depth, name, missing))
-    longest = 2 * (2 * depth + 2) + 3
-    of_turns = [made for turn, made in stores if turn]
-    others = [made for turn, made in stores if not turn]
-    tally.check(max(others) == longest, "depth %d: at most %d stores, %d wanted" % (depth, max(others), longest))
-    tally.check(max(of_turns) <= 324 + 4 * depth, "depth %d: a turn of %d stores" % (depth, max(of_turns)))
-    print("library: depth %d: calls with %d different numbers of stores, up to %d; turns with %d, up to %d" % (
-        depth, len(others), max(others), len(of_turns), max(of_turns)))
+    for name, most in {**states.MOST_STORES[depth], "recover": ANY_QUEUE}.items():
+        made = [count for call, count in stores if call == name]
+        tally.check(max(made) == most or name == "turn" and max(made) < most,
+                    "depth %d: nv_%s made %d stores, at most %d wanted" % (depth, name, max(made), most))
+        print("library: depth %d: nv_%s: %d different numbers of stores, up to %d" % (depth, name, len(made), max(made)))
 
 
 def main():

@@ -169,8 +169,8 @@ def main():
         tally.add(passed, failed)
         sums[depth] = [a + b for a, b in zip(sums[depth], counts)] + [max(most, sums[depth][3])]
     for depth, (cuts, recoveries, finished, most) in sums.items():
-        tally.check(most == 324 + 4 * depth, "depth %d: longest turn %d stores" % (depth, most))
-        print("turns: depth %d: %d cuts, %d recoveries from them, %d turns finished, turns of up to %d stores" % (
+        tally.check(most == states.MOST_STORES[depth]["turn"], "depth %d: longest turn %d stores" % (depth, most))
+        print("turns: depth %d: %d cuts, %d recoveries from them, %d turns finished, stores at most: nv_turn %d" % (
             depth, cuts, recoveries, finished, most))
     tally.finish()
 
