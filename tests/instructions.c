@@ -5,8 +5,8 @@
 // sequence, none before the one before it is whole, none left out, and nothing else changes. In the commit the count is
 // the last byte to change. And from the raw memory after each instruction that changed it, torn stores and all, a recovery
 // with another cache must be done and give every line's count and text as the book has them; of an open page when its turn
-// has been finished. A turn's commit sets bytes in two places and is taken as one store: no recovery starts inside it, and
-// how many instructions it takes is told.
+// has been finished. A turn's commit sets bytes in two places and is taken as one store: nothing is promised of a recovery
+// that starts inside it. How many instructions and bytes it takes is told, and what becomes of the module then.
 #include "module.h"
 #include <signal.h>
 #include <sys/mman.h>
@@ -16,6 +16,7 @@
 
 enum { STORES = 31, LINES_READ = 800, LONG = 1000000 };
 enum { ROOT_AT = 7, COUNT_AT = 15, NEW_ROOT_AT = 16, QUEUE_AT = 24, PLACE = 80, CELL = 72, SLOT = 73 };
+enum { COMMIT = 1 + 8 + 17 }; // bytes of a turn's commit: count, new root, section
 
 static const calls ours = CALLS_OF(nv_);
 
@@ -39,7 +40,9 @@ typedef struct {
     const char *fault;
 } seen;
 
-static module live, trial;
+typedef void visit(const listed *, unsigned made, seen *); // of a raw state, after so many whole stores
+
+static module live, trial, spare;
 static size_t length;
 static uint8_t *last;
 static volatile uint32_t *answered;
@@ -139,8 +142,8 @@ static void list_stores(listed *l, const module *start, enum scenario s)
 {
     memset(l->commit, 0, sizeof l->commit);
     l->batches = 0;
-    l->writes = writes(s);
-    l->turns = turns(s);
+    l->writes = scenario_calls[s] == WRITE;
+    l->turns = scenario_calls[s] == TURN;
     l->line = scenario_line(s, start->depth);
     l->page = scenario_page(s, start->depth);
     l->open = start->control[NV_TURN_AT];
@@ -153,7 +156,7 @@ static void list_stores(listed *l, const module *start, enum scenario s)
         if (code != NV_CUT)
             break;
     }
-    need(recovers(s) ? of_recovery(l, start->control[COUNT_AT]) : in_batches(l));
+    need(scenario_calls[s] == RECOVER ? of_recovery(l, start->control[COUNT_AT]) : in_batches(l));
 }
 
 static unsigned minor_of(const module *m, uint64_t line)
@@ -294,8 +297,9 @@ static pid_t start_child(enum scenario s)
     return child;
 }
 
-// Steps a child through the call. `live` has its start, `l` its stores; `each` is told of every raw state.
-static void step_through(enum scenario s, const listed *l, seen *see, void (*each)(const listed *, unsigned made, seen *))
+// Steps a child through the call. `live` has its start, `l` its stores; `each` is told of every raw state, but for those inside
+// the commit of a turn, which `torn` is told of.
+static void step_through(enum scenario s, const listed *l, seen *see, visit *each, visit *torn)
 {
     unsigned made = 0;
     int status;
@@ -315,8 +319,8 @@ static void step_through(enum scenario s, const listed *l, seen *see, void (*eac
         see->changes++;
         made = check_change(l, made, see);
         memcpy(last, live.control, length);
-        if (!see->fault && see->commit == 0)
-            each(l, made, see);
+        if (!see->fault)
+            (see->commit ? torn : each)(l, made, see);
     }
     if (!see->fault && memcmp(live.control, last, length) != 0)
         see->fault = "a change beside the stores";
@@ -333,6 +337,11 @@ static unsigned committed(const listed *l, unsigned made)
     for (unsigned k = 0; k < made; k++)
         count += l->commit[k];
     return count;
+}
+
+static void pass_by(const listed *l, unsigned made, seen *see)
+{
+    (void)l, (void)made, (void)see;
 }
 
 static void recover_each(const listed *l, unsigned made, seen *see)
@@ -375,10 +384,17 @@ static void make_listed(listed *l)
         l->whole[k] = owned(length);
 }
 
+static void free_listed(listed *l)
+{
+    for (int k = 0; k <= STORES; k++)
+        free(l->whole[k]);
+}
+
 static void set_up(unsigned depth)
 {
     live = joined(depth, shared);
     trial = joined(depth, owned);
+    spare = joined(depth, owned);
     length = NV_CONTROL_LENGTH + live.array_len;
     last = owned(length);
     kept = (book){ owned(NV_TEXT_LENGTH * live.lines), owned(live.lines) };
@@ -394,6 +410,24 @@ static void start(enum scenario s)
             live.control[i] = (uint8_t)(0x80 | i * 3);
 }
 
+static struct {
+    long instructions, bytes;
+} longest_commit;
+
+// The longest commit of a turn: the instructions from its first change to its last, and the bytes that it changes.
+static void note_commits(const listed *l, long instructions)
+{
+    if (instructions > longest_commit.instructions)
+        longest_commit.instructions = instructions;
+    for (unsigned k = 0; k < l->stores; k++) {
+        long bytes = 0;
+        for (size_t i = 0; i < NV_CONTROL_LENGTH && l->turns && l->commit[k]; i++)
+            bytes += l->whole[k][i] != l->whole[k + 1][i];
+        if (bytes > longest_commit.bytes)
+            longest_commit.bytes = bytes;
+    }
+}
+
 static int one(enum scenario s, unsigned depth)
 {
     listed l;
@@ -404,9 +438,9 @@ static int one(enum scenario s, unsigned depth)
     list_stores(&l, &live, s);
     need(s != FULL_WRITE || l.commit[2 * depth + 2]);
     need(s != EVICTING_TURN || (l.commit[2 * depth + 2] && l.batches == 3));
-    step_through(s, &l, &see, recover_each);
-    for (int k = 0; k <= STORES; k++)
-        free(l.whole[k]);
+    step_through(s, &l, &see, recover_each, pass_by);
+    note_commits(&l, see.longest);
+    free_listed(&l);
     return tell(scenario_names[s], depth, &l, &see);
 }
 
@@ -422,7 +456,7 @@ static int again(enum scenario s, unsigned depth, unsigned each)
     keep_book(&before, &live);
     list_stores(&l, &live, s);
     raws = 0;
-    step_through(s, &l, &see, keep_each);
+    step_through(s, &l, &see, keep_each, pass_by);
     keep_book(&after, &live);
     all.fault = see.fault;
     for (unsigned i = 0; i < raws && !all.fault; i += each) {
@@ -430,7 +464,7 @@ static int again(enum scenario s, unsigned depth, unsigned each)
         memset(live.cache, 0x6b, live.cache_len);
         kept = raw[i].committed ? after : before;
         list_stores(&repair, &live, IDLE_RECOVERY);
-        step_through(IDLE_RECOVERY, &repair, &see, recover_each);
+        step_through(IDLE_RECOVERY, &repair, &see, recover_each, pass_by);
         all.instructions += see.instructions;
         all.changes += see.changes;
         all.fault = see.fault;
@@ -438,14 +472,142 @@ static int again(enum scenario s, unsigned depth, unsigned each)
     }
     for (unsigned i = 0; i < raws; i++)
         free(raw[i].memory);
+    free_listed(&l);
+    free_listed(&repair);
     kept = before;
     return tell(each == 1 ? "recovery from each" : "recovery from some", depth, &l, &all);
+}
+
+// ---- Inside the commit of a turn ----
+
+// Which batch of the turn, and what becomes of the module: all is well; recovery is refused, as 121, 129 or 132; recovery is
+// done, an open page turned to its end, and the batch's own line is lost, where the next recovery is done or refused as 129;
+// the lines that batches before it turned are lost; or anything else. A lost line is refused as 125.
+enum { ONLY, FIRST, MIDDLE, LAST, BATCHES };
+enum { WELL, NO_CONTROL, NO_ROOT, NO_COUNTER, OWN_LINE, OWN_LINE_NO_ROOT, LINES_BEFORE, OTHERWISE, OUTCOMES };
+
+static const char *const batch_names[BATCHES] = { "only", "first", "middle", "last" };
+static const char *const outcome_names[OUTCOMES] = {
+    "all well", "recovery refused as 121", "recovery refused as 129", "recovery refused as 132", "its line lost",
+    "its line lost and the next recovery refused as 129", "lines of earlier batches lost", "otherwise",
+};
+static unsigned outcomes[BATCHES][OUTCOMES];
+
+// Reads every line after recovery, and finds the places of the page whose lines are refused as 125; whether all others are the
+// book's.
+static int find_lost(uint64_t page, uint64_t *lost)
+{
+    *lost = 0;
+    for (uint64_t line = 0; line < trial.lines; line++) {
+        uint32_t code = call_read(&trial, line, UNLIMITED);
+        if (line / 64 == page && code == NV_REFUSED + NV_BAD_DATA)
+            *lost |= (uint64_t)1 << line % 64;
+        else if (code > NV_BLANK || memcmp(trial.out, kept.text + NV_TEXT_LENGTH * line, NV_TEXT_LENGTH) != 0)
+            return 0;
+    }
+    return 1;
+}
+
+// The places of the page's first written lines, so many.
+static uint64_t first_places(uint64_t page, unsigned lines)
+{
+    uint64_t places = 0;
+    for (uint64_t place = 0; place < 64 && lines > 0; place++)
+        if (kept.count[64 * page + place]) {
+            places |= (uint64_t)1 << place;
+            lines--;
+        }
+    return places;
+}
+
+static uint32_t recover_spare(const module *from)
+{
+    copy_module(&spare, from);
+    memset(spare.cache, 0x6b, spare.cache_len);
+    return call_recover(&spare, UNLIMITED);
+}
+
+static int outcome_of(const listed *l, unsigned batch)
+{
+    unsigned before = batch + (l->open != 0); // lines turned before
+    uint64_t lost, turned = first_places(l->page, before), own = first_places(l->page, before + 1) ^ turned;
+    uint32_t code = recover_spare(&live);
+    if (code == NV_REFUSED + NV_BAD_CONTROL)
+        return NO_CONTROL;
+    if (code == NV_REFUSED + NV_BAD_ROOT)
+        return NO_ROOT;
+    if (code != NV_DONE)
+        return code == NV_REFUSED + NV_BAD_COUNTER ? NO_COUNTER : OTHERWISE;
+    copy_module(&trial, &spare);
+    if (trial.control[NV_TURN_AT] && call_turn(&trial, l->page, UNLIMITED) != NV_DONE)
+        return OTHERWISE;
+    code = recover_spare(&trial);
+    if (!find_lost(l->page, &lost))
+        return OTHERWISE;
+    if (lost == own && code == NV_REFUSED + NV_BAD_ROOT)
+        return OWN_LINE_NO_ROOT;
+    if (code != NV_DONE)
+        return OTHERWISE;
+    return lost == 0 ? WELL : lost == own ? OWN_LINE : lost == turned ? LINES_BEFORE : OTHERWISE;
+}
+
+static void tear(const listed *l, unsigned made, seen *see)
+{
+    unsigned batch = committed(l, made);
+    int last = batch + 1 == l->batches, first = batch == 0 && !l->open;
+    (void)see;
+    outcomes[last && first ? ONLY : last ? LAST : first ? FIRST : MIDDLE][outcome_of(l, batch)]++;
+}
+
+// Memory as a history leaves it, so without what start() puts there.
+static void tear_commits(enum scenario s)
+{
+    listed l;
+    seen see = { 0 };
+    make_listed(&l);
+    prepare(&live, s);
+    keep_book(&kept, &live);
+    list_stores(&l, &live, s);
+    step_through(s, &l, &see, pass_by, tear);
+    need(!see.fault);
+    free_listed(&l);
+}
+
+// Says what comes of it at a depth, and holds it to what the documents say.
+static int torn_commits(unsigned depth)
+{
+    static const uint8_t expected[BATCHES][OUTCOMES] = {
+        [ONLY] = { [WELL] = 1 },
+        [FIRST] = { [WELL] = 1, [NO_ROOT] = 1, [OWN_LINE] = 1 },
+        [MIDDLE] = { [OWN_LINE_NO_ROOT] = 1 },
+        [LAST] = { [NO_CONTROL] = 1, [NO_ROOT] = 1, [NO_COUNTER] = 1, [LINES_BEFORE] = 1 },
+    };
+    int failed = 0;
+    memset(outcomes, 0, sizeof outcomes);
+    tear_commits(SINGLE_TURN);
+    tear_commits(SMALL_TURN);
+    tear_commits(EVICTING_TURN);
+    tear_commits(RESUMED_TURN);
+    printf("instructions: depth %u: raw states inside the commit of a turn", depth);
+    for (int batch = 0; batch < BATCHES; batch++) {
+        const char *mark = ":";
+        printf("%s %s batch", batch ? ";" : ":", batch_names[batch]);
+        for (int i = 0; i < OUTCOMES; i++) {
+            if (outcomes[batch][i]) {
+                printf("%s %u %s", mark, outcomes[batch][i], outcome_names[i]);
+                mark = ",";
+            }
+            failed |= (outcomes[batch][i] != 0) != expected[batch][i];
+        }
+    }
+    printf("%s\n", failed ? " FAILED" : "");
+    return failed;
 }
 
 int main(void)
 {
     static const enum scenario tried[] = { FIRST_READ, EVICTING_READ, CACHED_WRITE, STOP_LOSS_WRITE, EVICTING_WRITE,
-                                           FULL_WRITE, SMALL_TURN, EVICTING_TURN, RESUMED_TURN, IDLE_RECOVERY,
+                                           FULL_WRITE, SMALL_TURN, EVICTING_TURN, RESUMED_TURN, SINGLE_TURN, IDLE_RECOVERY,
                                            SMALL_RECOVERY, FULL_RECOVERY, TURN_RECOVERY };
     int passed = 0, failed = 0;
     answered = shared(4);
@@ -457,7 +619,10 @@ int main(void)
             again(EVICTING_WRITE, depth, 1) ? failed++ : passed++;
             again(SMALL_TURN, depth, 3) ? failed++ : passed++;
         }
+        torn_commits(depth) ? failed++ : passed++;
     }
+    printf("instructions: the commit of a turn: %ld instructions, %ld bytes\n", longest_commit.instructions, longest_commit.bytes);
+    longest_commit.bytes == COMMIT ? passed++ : failed++;
     printf("instructions: %d passed, %d failed\n", passed, failed);
     return failed != 0;
 }

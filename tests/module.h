@@ -109,14 +109,24 @@ static inline uint32_t call_dirty_pages(const module *m)
 enum scenario {
     CACHED_READ, BLANK_READ, FIRST_READ, EVICTING_READ, CACHED_WRITE, STOP_LOSS_WRITE, EVICTING_WRITE, FULL_WRITE,
     SMALL_TURN, FULL_TURN, IDLE_RECOVERY, SMALL_RECOVERY, FULL_RECOVERY, FORMAT, DIRTY_PAGES, BENCH_ROWS,
-    EVICTING_TURN = BENCH_ROWS, RESUMED_TURN, TURN_RECOVERY, SCENARIOS,
+    EVICTING_TURN = BENCH_ROWS, RESUMED_TURN, SINGLE_TURN, TURN_RECOVERY, SCENARIOS,
 };
 
 static const char *const scenario_names[SCENARIOS] = {
     "read of a cached line", "blank read", "blank read, empty cache", "read with eviction", "write to a cached line",
     "stop-loss write", "write with eviction", "write, full batch", "turn of two lines", "turn of a full page",
     "recovery, full shadow", "recovery, one pending", "recovery, full batch", "format", "list of dirty pages",
-    "turn with eviction", "turn resumed", "recovery, open page",
+    "turn with eviction", "turn resumed", "turn of one line", "recovery, open page",
+};
+
+enum call { READ, WRITE, TURN, RECOVER, LIST, FORMATS, CALL_KINDS };
+
+static const char *const call_names[CALL_KINDS] = { "nv_read", "nv_write", "nv_turn", "nv_recover", "nv_dirty_pages", "nv_format" };
+
+// The call of each scenario.
+static const enum call scenario_calls[SCENARIOS] = {
+    READ, READ, READ, READ, WRITE, WRITE, WRITE, WRITE, TURN, TURN, RECOVER, RECOVER, RECOVER, FORMATS, LIST,
+    TURN, TURN, TURN, RECOVER,
 };
 
 enum { NEAR = 5 };
@@ -167,25 +177,21 @@ static inline uint64_t scenario_page(enum scenario s, unsigned depth)
     return (s == EVICTING_TURN ? far_line(depth) : NEAR) / 64;
 }
 
-// Writes the lines of a page that is to be turned; for a turn that is resumed, or recovered from, power fails after the
-// commit of its first batch.
+// Writes the lines of a page that is to be turned; for a turn that is resumed, or recovered from, the first is worn, and power
+// fails after the commit of its first batch.
 static inline void prepare_turn(const module *m, enum scenario s)
 {
     uint64_t first = s == FULL_TURN ? 0 : s == EVICTING_TURN ? far_line(m->depth) : NEAR;
-    uint64_t lines = s == FULL_TURN ? 64 : s == SMALL_TURN ? 2 : 3;
+    uint64_t lines = s == FULL_TURN ? 64 : s == SINGLE_TURN ? 1 : s == SMALL_TURN ? 2 : 3;
+    int left_open = s == RESUMED_TURN || s == TURN_RECOVERY;
     for (uint64_t i = 0; i < lines; i++)
-        put_lines(m, first + i, 1 + (int)i % 3);
+        put_lines(m, first + i, left_open && i == 0 ? 127 : 1 + (int)i % 3);
     if (s == EVICTING_TURN)
         put_lines(m, NEAR, 1);
-    if (s == RESUMED_TURN || s == TURN_RECOVERY)
+    if (left_open)
         need(call_turn(m, scenario_page(s, m->depth), 3) == NV_CUT && m->control[15] == 2 && m->control[NV_TURN_AT] == 1);
     if (s == RESUMED_TURN)
         need(call_recover(m, UNLIMITED) == NV_DONE);
-}
-
-static inline int turns(enum scenario s)
-{
-    return s == SMALL_TURN || s == FULL_TURN || s == EVICTING_TURN || s == RESUMED_TURN;
 }
 
 static inline void prepare(const module *m, enum scenario s)
@@ -208,7 +214,7 @@ static inline void prepare(const module *m, enum scenario s)
     }
     if (s == IDLE_RECOVERY)
         fill_slots(m);
-    if (turns(s) || s == TURN_RECOVERY)
+    if (scenario_calls[s] == TURN || s == TURN_RECOVERY)
         prepare_turn(m, s);
     memset(m->text, 0xe7, NV_TEXT_LENGTH);
     if (s == SMALL_RECOVERY) // cut after the commit of a batch of one cell
@@ -217,41 +223,19 @@ static inline void prepare(const module *m, enum scenario s)
         need(call_write(m, far, 2 * m->depth + 3) == NV_CUT && m->control[15] == 2 * m->depth + 2);
 }
 
-static inline int recovers(enum scenario s)
-{
-    return s == IDLE_RECOVERY || s == SMALL_RECOVERY || s == FULL_RECOVERY || s == TURN_RECOVERY;
-}
-
-static inline int writes(enum scenario s)
-{
-    return s == CACHED_WRITE || s == STOP_LOSS_WRITE || s == EVICTING_WRITE || s == FULL_WRITE;
-}
-
 static inline uint32_t run_scenario(const module *m, enum scenario s, uint64_t allowance)
 {
     uint64_t line = scenario_line(s, m->depth);
-    switch (s) {
-    case CACHED_READ:
-    case BLANK_READ:
-    case FIRST_READ:
-    case EVICTING_READ:
+    switch (scenario_calls[s]) {
+    case READ:
         return call_read(m, line, allowance);
-    case CACHED_WRITE:
-    case STOP_LOSS_WRITE:
-    case EVICTING_WRITE:
-    case FULL_WRITE:
+    case WRITE:
         return call_write(m, line, allowance);
-    case SMALL_TURN:
-    case FULL_TURN:
-    case EVICTING_TURN:
-    case RESUMED_TURN:
+    case TURN:
         return call_turn(m, scenario_page(s, m->depth), allowance);
-    case IDLE_RECOVERY:
-    case SMALL_RECOVERY:
-    case FULL_RECOVERY:
-    case TURN_RECOVERY:
+    case RECOVER:
         return call_recover(m, allowance);
-    case FORMAT:
+    case FORMATS:
         return call_format(m);
     default:
         return call_dirty_pages(m);

@@ -11,7 +11,6 @@ CALLS(plain_)
 
 enum { KEYS, CONTROL, ARRAY, CACHE, BUFFER, NUMBERS, PARTS };
 enum { HEAP, BEFORE_WALL, AFTER_WALL, PLACES };
-enum { READ, WRITE, TURN, RECOVER, LIST, FORMATS };
 
 typedef struct {
     uint8_t *at, *base;

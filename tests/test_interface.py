@@ -218,6 +218,18 @@ def symbols(tally, archive):
     print("interface: the library defines %s; asks for %s" % (" ".join(sorted(given)), " ".join(sorted(asked)) or "nothing"))
 
 
+def borrowers(tally, archive):
+    """The functions of the library that call what it asks for: the code of reads, writes and turns does not."""
+    found, here = set(), None
+    for line in run("objdump", "-dr", archive)[1].split("\n"):
+        symbol = re.match(r"[0-9a-f]+ <(\S+)>:", line)
+        here = symbol.group(1) if symbol else here
+        if re.search(r"R_X86_64_\w+\s+(?:%s)\b" % "|".join(sorted(ASKED)), line):
+            found.add(here)
+    tally.check(found == {"nv_format", "nv_recover"}, "memcpy or memset is called in %s" % sorted(found))
+    print("interface: what it asks for is called in %s alone" % " and ".join(sorted(found)))
+
+
 def instructions(path):
     """The instructions of an object or archive, in words, by the symbol that they follow."""
     found = {}
@@ -284,6 +296,7 @@ def main():
         without_division(tally, archive, work)
     signatures(tally, text)
     symbols(tally, archive)
+    borrowers(tally, archive)
     null_pointers(tally, Library())
     tally.finish()
 
