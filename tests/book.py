@@ -158,28 +158,31 @@ def rows_of(book, depth):
     for line, text in book.texts.items():
         rows[ROW * line:ROW * (line + 1)] = bytes([DONE]) + text
     if book.open_page is not None:
-        start = ROW * 64 * book.open_page
-        rows[start:start + ROW * 64] = (bytes([REFUSED + 30]) + BEFORE) * 64
+        refuse(rows, range(64 * book.open_page, 64 * book.open_page + 64), REFUSED + 30)
     return rows
 
 
-def read_fault(book, session):
-    """The first line whose read as the next call does not give the book's text, or None; all lines are read."""
+def refuse(rows, lines, code):
+    """Has these lines, a range of them, refused."""
+    rows[ROW * lines.start:ROW * lines.stop] = (bytes([code]) + BEFORE) * len(lines)
+
+
+def misread(session, rows):
+    """The first line whose read as the next call does not give code and output of its row, or None; all lines are read."""
     lines, at = model.lines(session.depth), session.at
-    rows = rows_of(book, session.depth)
     line = first_misread()(ctypes.cast(session.functions["read"], ctypes.c_void_p), at["keys"], at["control"], at["array"],
                            session.lengths["array"], at["cache"], session.lengths["cache"], lines,
                            (ctypes.c_char * len(rows)).from_buffer(rows))
-    return "a read of line %d does not give the book's text" % line if line < lines else None
+    return line if line < lines else None
 
 
 def faults_after_recovery(book, session, keys, told):
     """All clauses of the history rule that fail after a done recovery."""
     module = session.module()
     faults = list(tree_faults(book, keys, session.depth, module, told))
-    fault = read_fault(book, session)
-    if fault:
-        faults.append(fault)
+    line = misread(session, rows_of(book, session.depth))
+    if line is not None:
+        faults.append("a read of line %d does not give the book's text" % line)
     elif session.module() != module:
         faults.append("reads left more than they may")
     return faults

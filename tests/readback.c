@@ -16,20 +16,12 @@ typedef struct {
 
 static uint8_t control[NV_CONTROL_LENGTH], tail[TAIL], cache[NV_CACHE_LENGTH_3];
 
-static uint64_t number_in(const uint8_t *bytes)
-{
-    uint64_t x = 0;
-    for (int i = 7; i >= 0; i--)
-        x = x << 8 | bytes[i];
-    return x;
-}
-
 // Puts back what a read of so many stores has changed. The cells that it stored are in the queue; a data cell is left for
 // the caller to find.
 static void put_back(const module *m, uint64_t stores)
 {
     for (uint64_t j = 0; j < PLACES && 2 * j + 3 < stores; j++) {
-        uint64_t cell = number_in(m->control + QUEUE_AT + PLACE * j);
+        uint64_t cell = nv_number(m->control, QUEUE_AT + PLACE * j);
         if (cell >= m->lines && cell < m->array_len / CELL)
             memcpy(m->array + CELL * cell, tail + CELL * (cell - m->lines), CELL);
     }
@@ -45,16 +37,16 @@ static int gives(__typeof__(nv_read) *read, const uint8_t *keys, const module *m
     memset(out, 0xa5, sizeof out);
     uint32_t code = read(keys, NV_KEYS_LENGTH, m->control, NV_CONTROL_LENGTH, m->array, m->array_len, m->cache, m->cache_len,
                          line, out, sizeof out, allowance, numbers, sizeof numbers);
-    *stores = number_in(numbers + NV_STORES_AT);
+    *stores = nv_number(numbers, NV_STORES_AT);
     if (*stores)
         put_back(m, *stores);
-    return code == want->code && memcmp(out, want->text, sizeof out) == 0 && number_in(numbers + NV_FIRST_AT) == 0
-        && number_in(numbers + NV_SECOND_AT) == 0;
+    int placed = nv_number(numbers, NV_FIRST_AT) || nv_number(numbers, NV_SECOND_AT);
+    return code == want->code && memcmp(out, want->text, sizeof out) == 0 && (code > NV_REFUSED || !placed);
 }
 
 // The first line whose read as the next call does not give what is wanted, or the number of lines. Lines at odd places are
-// read under an allowance of just their stores, which are those of the line before. The module stays, but for what no read
-// may change.
+// read under an allowance of just their stores, which are those of the line before, where that is not refused. The module
+// stays, but for what no read may change.
 uint64_t first_misread(__typeof__(nv_read) *read, const uint8_t *keys, uint8_t *the_control, uint8_t *array, size_t array_len,
                        uint8_t *the_cache, size_t cache_len, uint64_t lines, const wanted *want)
 {
@@ -63,8 +55,10 @@ uint64_t first_misread(__typeof__(nv_read) *read, const uint8_t *keys, uint8_t *
     memcpy(control, m.control, sizeof control);
     memcpy(tail, m.array + CELL * lines, array_len - CELL * lines);
     memcpy(cache, m.cache, cache_len);
-    for (line = 0; line < lines; line++)
-        if (!gives(read, keys, &m, line, line % 2 ? stores : UINT64_MAX, want + line, &stores))
+    for (line = 0; line < lines; line++) {
+        uint64_t allowance = line % 2 && want[line - 1].code < NV_REFUSED ? stores : UINT64_MAX;
+        if (!gives(read, keys, &m, line, allowance, want + line, &stores))
             break;
+    }
     return line;
 }
