@@ -10,12 +10,14 @@
 //     bytes 0 to 31, for the pads, recovery is done, and a read is done and gives 64 bytes of junk. A write or a turn is
 //     done too, and then the right keys read junk: the texts of a page that was turned so are gone. So write a known text
 //     to a row on a page that is never turned, and after power-up read it before the first write or turn.
-//   - THE COMMIT OF A TURN MUST BE STORED WHOLE: 26 bytes in two places of the control record. If power fails inside it, a
-//     line may be lost, or a later turn or recovery refused. Any other store may be torn between two bytes.
-//   - NOTHING MAY BE READ OR WRITTEN BEFORE A RECOVERY IS DONE, after power-up, a reset or NV_CUT; not every such call is
-//     refused. After a recovery that is refused as 27, 28, 29 or 32 no line can be read through the library. Damage, wrong
-//     tag keys or a recovery left out lead there; power failures do not, but for one inside the commit of a turn. Keep
-//     array and control record as they are, and report.
+//   - THE COMMIT OF A TURN MUST BE STORED WHOLE: 26 bytes in two places of the control record. If power fails inside it,
+//     lines of the page may be lost, or the next recovery refused as 21, 29 or 32, and with it the whole module. No other
+//     store needs this.
+//   - NOTHING MAY BE READ, WRITTEN OR TURNED BEFORE A RECOVERY IS DONE, after power-up, a reset or NV_CUT. Not every such
+//     call is refused; a write can then cost the module, or put two texts under one pad.
+//   - WHERE THE RECOVERY AFTER A POWER FAILURE IS REFUSED as 27, 28, 29 or 32, no text can be read through the library any
+//     more. Damage, wrong tag keys or a recovery left out lead there; power failures do not, but for one inside the commit
+//     of a turn. Keep array and control record as they are, and report.
 //
 // What the caller must ensure, since no check can see it:
 //   - each pointer is good for its length: for reading where it is const, else for reading and writing;

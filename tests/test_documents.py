@@ -1,5 +1,5 @@
-"""The documents: each quote of docs/INSPECTOR.md stands in the file that is named last before it, as it stands there; and
-numbers are what was measured in this run of tools/test, from what its tests have said, or counted in the tree.
+"""The documents: each quote of docs/INSPECTOR.md stands in the file that is named last before it, as it stands there; every code
+is explained; and numbers are what was measured in this run of tools/test, from what its tests have said, or counted in the tree.
 
 To hold another number, add a row to `rows`.
 """
@@ -11,6 +11,8 @@ import subprocess
 import sys
 
 import model
+import test_cuts
+import test_turns
 from library import Tally
 from states import DEPTHS
 
@@ -45,25 +47,22 @@ def check_quotes(tally):
 
 # ---- Counted in the tree, or of the library ----
 
-def uses():
-    """What each crate uses, from crates.txt."""
-    lines = [line.split("#")[0] for line in text_of("crates.txt").split("\n")]
-    return {name.strip(): used.split() for name, _, used in (line.partition(":") for line in lines) if name.strip()}
-
-
-def definitions(*crates):
-    """How many lines of definitions these crates have, with all that they use; blank lines, comments and imports are none."""
-    used, seen, count = uses(), set(), 0
-    left = [crate for crate in crates if os.path.isdir(os.path.join(TOP, "crates", crate, "specs"))]
+def definitions():
+    """Of the statement of the history rule and the files that it uses, directly or through others: how many lines they have,
+    without blank ones, comments and imports, and how many files there are."""
+    left, lines = [("history_laws", "History")], {}
     while left:
-        crate = left.pop()
-        if crate in used and crate not in seen:
-            seen.add(crate)
-            left += used[crate]
-            for path in glob.glob(os.path.join(TOP, "crates", crate, "specs", "**", "*.antt"), recursive=True):
-                lines = text_of(path).split("\n") if os.path.basename(path) != "Lib.antt" else []
-                count += sum(1 for line in map(str.strip, lines) if line and not line.startswith(("--", "use ")))
-    return count
+        file = left.pop()
+        path = "crates/%s/specs/%s.antt" % file
+        if file not in lines and os.path.isfile(os.path.join(TOP, path)):
+            text = text_of(path)
+            lines[file] = sum(1 for line in map(str.strip, text.split("\n")) if line and not line.startswith(("--", "use ")))
+            left += re.findall(r"^use Rattle·(\w+)(?:·specs)?\.specs\.(\w+)", text, re.M)
+    return sum(lines.values()), len(lines)
+
+
+def edits(crate="*"):
+    return len(glob.glob(os.path.join(TOP, "crates", crate, "must-fail", "*.edit")))
 
 
 def code_size():
@@ -102,10 +101,13 @@ def rows():
     firmware, performance, inspector = "docs/FIRMWARE.md", "docs/PERFORMANCE.md", "docs/INSPECTOR.md"
     header = "include/nightvelvet.h"
     stores = most_stores()
-    [(_, commit)] = said(r"instructions: the commit of a turn: (\d+) instructions, (\d+) bytes")
+    [commit] = [[int(bytes_), int(steps)] for steps, bytes_ in said(r"instructions: the commit of a turn: (\d+) instructions, (\d+) bytes")]
+    stepped = len(said(r"instructions: depth 3: .* (\d+) stores, .*"))
     arrays, caches, lines = ([size(depth) for depth in DEPTHS] for size in (model.array_length, model.cache_length, model.lines))
     yield firmware, f"it has {N} bytes of code and constants", [code_size()]
-    yield firmware, f"the lines that are left: {N} bytes", [int(commit)]
+    yield firmware, f"It sets {N} bytes in two places of the control record, in {N} instructions of this build", commit
+    yield firmware, f"the lines that are left: {N} bytes, on this build in {N} instructions", commit
+    yield firmware, f"At every depth it does so for {N} calls", [stepped]
     yield firmware, fr"\| array \| {N} at depth 1; {N} at 2; {N} at 3 \|", arrays
     yield firmware, fr"\| cache \| {N}; {N}; {N} \|", caches
     yield firmware, f"Depths 1, 2 and 3 have {N}, {N} and {N} lines", lines
@@ -114,9 +116,17 @@ def rows():
     yield firmware, fr"\| stores of a turn \| {N} \| {N} \| {N} \|", stores["turn"]
     yield firmware, fr"\| stores of a recovery \| {N} \| {N} \| {N} \|", stores["recover"]
     yield inspector, f"It makes at most {N} stores", [max(stores["recover"])]
-    yield inspector, f"About {N} lines, in the `specs` folders", [round(definitions("calls", "history_laws"), -1)]
+    yield inspector, f"It sets {N} bytes in two places, in {N} instructions on this build", commit
+    yield inspector, fr"\({N} calls at each", [stepped]
+    yield inspector, f"The statement stands on {N} lines in {N} files", definitions()
+    yield inspector, f"`tools/test` does so with {N} edits of", [edits("history_laws")]
+    yield inspector, f"of {N} reads and writes with small and full batches", [len(list(test_cuts.scenarios(1)))]
+    yield inspector, f"of turns of pages with {N} {N} {N} {N} and {N} written lines", test_turns.COUNTS
+    failures = [int(re.search(r"FAILURES = (\d+)", text_of("examples/recorder.c")).group(1))]
+    yield inspector, f"`recorder try` loses power {N} times", failures
+    yield "README.md", f"recorder try trial 1 +loses power {N} times", failures
     yield header, f"at most {N} stores", [max(stores["turn"])]
-    yield header, f"STORED WHOLE: {N} bytes", [int(commit)]
+    yield header, f"STORED WHOLE: {N} bytes", commit[:1]
     for call, size in said(r"stack: (nv_\w+): at most (\d+) bytes"):
         yield firmware, fr"\| `{call}` \| {N} \|\n", [int(size)]
         yield performance, fr"\| `{call}` \| {N} \| [\d,]+ \|\n", [int(size)]
@@ -132,9 +142,41 @@ def check_numbers(tally):
             told = [int(text.replace(",", "")) for text in told]
             holds = len(told) == len(wanted) and all(a == b or isinstance(b, range) and a in b for a, b in zip(told, wanted))
             tally.check(holds, "%s: %s is %s, and was measured as %s" % (document, pattern, told, wanted))
-    edits = glob.glob(os.path.join(TOP, "crates", "*", "must-fail", "*.edit"))
-    print("documents: %d crates, %d edits that must be refused, %d lines of definitions, %d bytes of code and constants" % (
-        len(uses()), len(edits), definitions("calls", "history_laws"), code_size()))
+    print("documents: %d edits that must be refused, %d lines of definitions, %d bytes of code and constants" % (
+        edits(), definitions()[0], code_size()))
+
+
+# ---- Codes ----
+
+def rows_of(document, head):
+    """The rows of the table whose head starts so."""
+    table = text_of(document).split("\n| %s |" % head)[1].split("\n\n")[0]
+    return [[cell.strip() for cell in row.strip("|").split("|")] for row in table.split("\n")[2:]]
+
+
+def codes_in(text):
+    """`124`, `101 to 107`, `127, 128`: the codes."""
+    found = []
+    for first, last in re.findall(r"(\d+)(?: to (\d+))?", text):
+        found += range(int(first), int(last or first) + 1)
+    return found
+
+
+def check_codes(tally):
+    """DEPOT and FIRMWARE have each code of the header, once in each table, and the lines that a node covers."""
+    header = text_of("include/nightvelvet.h")
+    numbers = [int(number) for number in re.findall(r"^    NV_[A-Z_]+ = (\d+)", header[header.index("// Numbers of refusals."):], re.M)]
+    wanted = [100 + number for number in numbers]
+    meanings = rows_of("docs/DEPOT.md", "Code | Number")
+    tally.check([(int(code), number) for code, number, *_ in meanings]
+                == [(code, "") for code in (0, 1, 2)] + [(100 + number, str(number)) for number in numbers], "DEPOT: the codes' meanings")
+    for document, head, first in (("docs/DEPOT.md", "Code | What still reads", []), ("docs/FIRMWARE.md", "Code | | Still reads", [0, 1, 2])):
+        told = [code for row in rows_of(document, head) for code in codes_in(row[0])]
+        tally.check(sorted(told) == first + wanted, "%s: what to do after the codes %s" % (document, told))
+    for level, row in enumerate(rows_of("docs/DEPOT.md", "Level")):
+        size = model.CONTENT * 8**level
+        tally.check(row[0].startswith(str(level)) and row[2] == f"{size:,}"
+                    and (level == 3 or row[1] == f"{size:,}i to {size:,}i + {size - 1:,}"), "DEPOT: the lines of level %d" % level)
 
 
 def main():
@@ -142,6 +184,7 @@ def main():
         sys.exit("documents: this test needs what the other tests say: run tools/test, which runs it last")
     tally = Tally("documents")
     check_quotes(tally)
+    check_codes(tally)
     check_numbers(tally)
     tally.finish()
 
