@@ -101,7 +101,7 @@ def rows():
     firmware, performance, inspector = "docs/FIRMWARE.md", "docs/PERFORMANCE.md", "docs/INSPECTOR.md"
     header = "include/nightvelvet.h"
     stores = most_stores()
-    [commit] = [[int(bytes_), int(steps)] for steps, bytes_ in said(r"instructions: the commit of a turn: (\d+) instructions, (\d+) bytes")]
+    commit = [int(word) for word in said(r"instructions: the commit of a turn: (\d+) instructions, (\d+) bytes")[0]][::-1]
     stepped = len(said(r"instructions: depth 3: .* (\d+) stores, .*"))
     arrays, caches, lines = ([size(depth) for depth in DEPTHS] for size in (model.array_length, model.cache_length, model.lines))
     yield firmware, f"it has {N} bytes of code and constants", [code_size()]
@@ -170,7 +170,8 @@ def check_codes(tally):
     meanings = rows_of("docs/DEPOT.md", "Code | Number")
     tally.check([(int(code), number) for code, number, *_ in meanings]
                 == [(code, "") for code in (0, 1, 2)] + [(100 + number, str(number)) for number in numbers], "DEPOT: the codes' meanings")
-    for document, head, first in (("docs/DEPOT.md", "Code | What still reads", []), ("docs/FIRMWARE.md", "Code | | Still reads", [0, 1, 2])):
+    for document, head, first in (("docs/DEPOT.md", "Code | What still reads", []),
+                                  ("docs/FIRMWARE.md", "Code | | Still reads", [0, 1, 2])):
         told = [code for row in rows_of(document, head) for code in codes_in(row[0])]
         tally.check(sorted(told) == first + wanted, "%s: what to do after the codes %s" % (document, told))
     for level, row in enumerate(rows_of("docs/DEPOT.md", "Level")):
