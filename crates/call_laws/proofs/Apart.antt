@@ -103,13 +103,13 @@ made-content {m = m} allowance n {xs} f w e =
     front (storeAll m (made allowance xs) .array) n ∙ ap (take 64) (stores-apart n f (each-take allowance w) (each-take allowance e))
     ∙ sym (front (m .array) n)
 
-module _ (h : ℕ) (high : h ≤ 3) (a k : List ℕ) (whole : length a ≡ arrayLength h) (record681 : length k ≡ controlLength)
+module _ (h : ℕ) (high : h ≤ 3) (a k : List ℕ) (whole : length a ≡ arrayLength h) (control-length : length k ≡ controlLength)
     (plain : Below 256 a) (plain-k : Below 256 k) (cs : List Cell) (sound : Each (Sound h) cs) (few : length cs ≤ 8) (allowance r : ℕ) where
   abbrev pub stored : List ℕ
   stored = storeAll (media a k) (made allowance (batchStores cs r)) .array
 
   formed : Media·Formed (length a) (media a k)
-  formed = record { array-length = refl; control-length = record681; array-bytes = plain; control-bytes = plain-k }
+  formed = record { array-length = refl; control-length = control-length; array-bytes = plain; control-bytes = plain-k }
 
   within : Each (Within (length a / 72)) (batchStores cs r)
   within = rw (array-cells h (length a) whole) (within-batch (cells h) r (wholes h high sound) (in-map h sound) few)
@@ -122,15 +122,16 @@ module _ (h : ℕ) (high : h ≤ 3) (a k : List ℕ) (whole : length a ≡ array
 
 -- ---- of the path's own batch
 
-module _ (h : ℕ) (low : 1 ≤ h) (high : h ≤ 3) (a k c : List ℕ) (whole : length a ≡ arrayLength h) (record681 : length k ≡ controlLength)
-    (plain : Below 256 a) (plain-k : Below 256 k) (fit : Fit h c) (p : ℕ) (page : p < pages h) (allowance r : ℕ) where
+module _ (h : ℕ) (low : 1 ≤ h) (high : h ≤ 3) (a k c : List ℕ) (whole : length a ≡ arrayLength h)
+    (control-length : length k ≡ controlLength) (plain : Below 256 a) (plain-k : Below 256 k)
+    (fit : Fit h c) (p : ℕ) (page : p < pages h) (allowance r : ℕ) where
   abbrev after : List ℕ
   after = storeAll (media a k) (made allowance (batchStores (pathCells h c p (suc h)) r)) .array
 
   kept : (y : Item) → Each (Other h y) (pathCells h c p (suc h)) → cellContent after (cellOf h y) ≡ cellContent a (cellOf h y)
   kept =
-      content-kept h high a k whole record681 plain plain-k (pathCells h c p (suc h)) (cells-sound h c fit p page (suc h) (le-refl (suc h)))
-      (omega (arith, path-few h c fit p page low)) allowance r
+      content-kept h high a k whole control-length plain plain-k (pathCells h c p (suc h))
+      (cells-sound h c fit p page (suc h) (le-refl (suc h))) (omega (arith, path-few h c fit p page low)) allowance r
 
   pub line-content : (n : ℕ) → n < lines h → cellContent after n ≡ cellContent a n
   unfolding cellOf

@@ -110,7 +110,7 @@ unfolding formatted
 formatted-kept keys h m ok =
     record {
       array = array-length keys h ∙ sym (ok .fits .array);
-      control = control-length h (freshRoot keys (λ p. 0) (λ n. 0) h) ∙ sym (ok .record681);
+      control = control-length h (freshRoot keys (λ p. 0) (λ n. 0) h) ∙ sym (ok .control-length);
       cache = length-empty h ∙ sym (ok .fits .cache);
       bytes = record {
         array = array-bytes keys h;

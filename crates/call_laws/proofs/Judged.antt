@@ -72,8 +72,8 @@ sized h m xs e =
 
 -- 2 3 21 4 5
 pub record Opened (keys : List ℕ) (m : Module) : Type 0 where
-  pub keys48 : length keys ≡ 48
-  pub record681 : length (m .control) ≡ controlLength
+  pub keys-length : length keys ≡ 48
+  pub control-length : length (m .control) ≡ controlLength
   pub right : valid (m .control) ≡ true
   pub fits : Sized (depth (m .control)) m
 
@@ -83,7 +83,7 @@ opened keys m xs e =
     let q = passed (not (eqb (length (m .control)) controlLength)) 2 _ (p .rest) in
     let r = passed (not (valid (m .control))) 20 _ (q .rest) in
     let s = sized (depth (m .control)) m xs (r .rest) in
-    (record { keys48 = alike _ _ (p .test); record681 = alike _ _ (q .test); right = not-false _ (r .test); fits = s .0 }, s .1)
+    (record { keys-length = alike _ _ (p .test); control-length = alike _ _ (q .test); right = not-false _ (r .test); fits = s .0 }, s .1)
 
 pub recovery-opened : (keys : List ℕ) (m : Module) → recoveryRefusal keys m ≡ 0 → Opened keys m
 unfolding recoveryRefusal
@@ -93,7 +93,7 @@ recovery-opened keys m e = opened keys m [] e .0
 pub opened-on : {keys : List ℕ} {m : Module} (ys : List (Bool × ℕ)) {r : ℕ} → Opened keys m → r ≡ judged ys
     → r ≡ judged (openingTests keys m ++ ys)
 opened-on ys o e =
-    on _ _ _ (unlike-false (o .keys48)) (on _ _ _ (unlike-false (o .record681)) (on _ _ _ (ap not (o .right))
+    on _ _ _ (unlike-false (o .keys-length)) (on _ _ _ (unlike-false (o .control-length)) (on _ _ _ (ap not (o .right))
     (on _ _ _ (unlike-false (o .fits .array)) (on _ _ _ (unlike-false (o .fits .cache)) e))))
 
 -- nothing is pending
@@ -206,8 +206,8 @@ module _ (keys : List ℕ) (p : ℕ) (m : Module) where
 pub record Formattable (keys : List ℕ) (h : ℕ) (m : Module) : Type 0 where
   pub low : 1 ≤ h
   pub high : h ≤ 3
-  pub keys48 : length keys ≡ 48
-  pub record681 : length (m .control) ≡ controlLength
+  pub keys-length : length keys ≡ 48
+  pub control-length : length (m .control) ≡ controlLength
   pub fits : Sized h m
 
 pub format-accepted : (keys : List ℕ) (h : ℕ) (m : Module) → formatRefusal keys h m ≡ 0 → Formattable keys h m
@@ -220,8 +220,8 @@ format-accepted keys h m e =
     record {
       low = leb-true 1 h (depths .0);
       high = leb-true h 3 (depths .1);
-      keys48 = alike _ _ (q .test);
-      record681 = alike _ _ (r .test);
+      keys-length = alike _ _ (q .test);
+      control-length = alike _ _ (r .test);
       fits = sized h m [] (r .rest) .0;
     }
 

@@ -84,14 +84,14 @@ pub record Buffers (h : ℕ) (m : Module) : Type 0 where
   pub bytes : Bytes m
   pub high : h ≤ 3
   pub whole : length (m .array) ≡ arrayLength h
-  pub record681 : length (m .control) ≡ controlLength
+  pub control-length : length (m .control) ≡ controlLength
 
 -- stores of sound cells, as far as an allowance goes
 module _ {h : ℕ} {m : Module} (w : Buffers h m) where
-  open Buffers w using (bytes, high, whole, record681)
+  open Buffers w using (bytes, high, whole, control-length)
 
   pub media-formed : Media·Formed (length (m .array)) (mediaOf m)
-  media-formed = record { array-length = refl; control-length = record681; array-bytes = bytes .array; control-bytes = bytes .control }
+  media-formed = record { array-length = refl; control-length = control-length; array-bytes = bytes .array; control-bytes = bytes .control }
 
   batch-within : {xs : List Cell} (r : ℕ) → Each (Sound h) xs → length xs ≤ 8 → Each (Within (length (m .array) / 72)) (batchStores xs r)
   batch-within r s few = rw (array-cells h (length (m .array)) whole) (within-batch (cells h) r (wholes h high s) (in-map h s) few)
@@ -102,7 +102,7 @@ module _ {h : ℕ} {m : Module} (w : Buffers h m) where
       let f = made-kept a media-formed s in
       record {
         array = f .array-length;
-        control = f .control-length ∙ sym record681;
+        control = f .control-length ∙ sym control-length;
         cache = e;
         bytes = record { array = f .array-bytes; control = f .control-bytes; cache = p };
       }
@@ -183,7 +183,8 @@ module _ {keys : List ℕ} {n : ℕ} {buffer : List ℕ} {m : Module} (g : Given
   page = page-inside h n (ok .entry .inside)
 
   buffers : Buffers h m
-  buffers = record { bytes = bytes; high = head-of keys m opening .flat; whole = opening .fits .array; record681 = opening .record681 }
+  buffers =
+      record { bytes = bytes; high = head-of keys m opening .flat; whole = opening .fits .array; control-length = opening .control-length }
 
   accepted-path : LoadsIf h (pathOf keys n m)
   accepted-path =

@@ -152,12 +152,12 @@ front-depth k l e = sym (getD-part k 0 7 5 (lit< tt)) ∙ ap (λ (x : List ℕ).
 
 module _ (keys : List ℕ) (m : Module) (b : Bytes m) (ok : Opened keys m) where
   buffers : Buffers (depth (m .control)) m
-  buffers = record { bytes = b; high = head-of keys m ok .flat; whole = ok .fits .array; record681 = ok .record681 }
+  buffers = record { bytes = b; high = head-of keys m ok .flat; whole = ok .fits .array; control-length = ok .control-length }
 
   pending-within : Each (Within (length (m .array) / 72)) (pendingStores (m .control))
   pending-within =
       rw (array-cells (depth (m .control)) (length (m .array)) (ok .fits .array))
-      (within-pending (cells (depth (m .control))) (m .control) (ok .record681) (b .control) (head-of keys m ok .few)
+      (within-pending (cells (depth (m .control))) (m .control) (ok .control-length) (b .control) (head-of keys m ok .few)
       (valid-parts (ok .right) .cells-in))
 
   abbrev xs : List Store

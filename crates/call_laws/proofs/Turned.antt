@@ -33,7 +33,8 @@ module _ {keys : List ℕ} {p : ℕ} {m : Module} (bytes : Bytes m) (ok : TurnAc
   h = depth (m .control)
 
   buffers : Buffers h m
-  buffers = record { bytes = bytes; high = head-of keys m opening .flat; whole = opening .fits .array; record681 = opening .record681 }
+  buffers =
+      record { bytes = bytes; high = head-of keys m opening .flat; whole = opening .fits .array; control-length = opening .control-length }
 
   loads : LoadsIf h (pagePath keys p m)
   loads =

@@ -85,7 +85,7 @@ module _ (keys : List ℕ) (h : ℕ) where
 
 -- another array of the same length
 pub resized : {h : ℕ} {keys a b : List ℕ} → Sized h keys a → length b ≡ arrayLength h → Sized h keys b
-resized s e = record { deep = s .deep; flat = s .flat; keys48 = s .keys48; array = e }
+resized s e = record { deep = s .deep; flat = s .flat; keys-length = s .keys-length; array = e }
 
 -- the contents of a level as they lie in an array
 abbrev pub lying : ℕ → List ℕ → ℕ → ℕ → List ℕ

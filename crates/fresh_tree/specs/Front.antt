@@ -10,7 +10,7 @@ use Rattle.calls.specs.Format.{freshArray}
 pub record Sized (h : ℕ) (keys a : List ℕ) : Type 0 where
   pub deep : 1 ≤ h
   pub flat : h ≤ 3
-  pub keys48 : length keys ≡ 48
+  pub keys-length : length keys ≡ 48
   pub array : length a ≡ arrayLength h
 
 -- the first n cells of a formatted array, then zeros

@@ -125,8 +125,8 @@ module _ {S : Setting} {b : Book} {o : Opening} where
   pub tests-pass : {m : Module} → Holds S b o m → Opened (S .keys) m
   tests-pass held =
       record {
-        keys48 = S .k48;
-        record681 = held .formed .control-length;
+        keys-length = S .k48;
+        control-length = held .formed .control-length;
         right = held .right;
         fits = record {
           array = held .formed .array-length ∙ ap arrayLength (sym (held .deep));

@@ -90,7 +90,7 @@ accepts {keys} {line} {b} {m} {h} ok deep =
     let e = ok .entry in
     let shaped : formed h (m .cache) ≡ true = ap (λ (k : ℕ). formed k (m .cache)) deep ∙ ok .shaped in
     let inside : line < lines h = subst (λ (k : ℕ). line < lines k) (sym deep) (e .inside) in
-    (e .opening .keys48, (e .opening .record681, (deep, (sized-of (e .opening) deep, (shaped, (inside, e .buffer))))))
+    (e .opening .keys-length, (e .opening .control-length, (deep, (sized-of (e .opening) deep, (shaped, (inside, e .buffer))))))
 
 -- ---- what walking the path of a page tells
 

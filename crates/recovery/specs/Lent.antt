@@ -9,8 +9,8 @@ use Rattle.forwarding.specs.Rebuild.{Placed}
 
 -- the image is as long as the cache, and each of the owners belongs to its slot
 pub record Lent (keys control array image cache owners : List ℕ) : Type 0 where
-  pub keys48 : length keys ≡ 48
-  pub record681 : length control ≡ controlLength
+  pub keys-length : length keys ≡ 48
+  pub control-length : length control ≡ controlLength
   pub sized : Sized (depth control) array image
   pub same-length : length cache ≡ length image
   pub placed : Placed (depth control) owners

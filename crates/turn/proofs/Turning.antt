@@ -39,7 +39,7 @@ pub takes : {keys : List ℕ} {p : ℕ} {m : Module} {h : ℕ} → TurnAccepted 
 takes {keys} {p} {m} {h} ok deep =
     let shaped : formed h (m .cache) ≡ true = ap (λ (k : ℕ). formed k (m .cache)) deep ∙ ok .shaped in
     let inside : p < pages h = subst (λ (k : ℕ). p < pages k) (sym deep) (ok .inside) in
-    (ok .opening .keys48, (ok .opening .record681, (deep, (sized-of (ok .opening) deep, (shaped, inside)))))
+    (ok .opening .keys-length, (ok .opening .control-length, (deep, (sized-of (ok .opening) deep, (shaped, inside)))))
 
 pub page-ready : (keys : List ℕ) {h : ℕ} {k a c : List ℕ} {p : ℕ} → Takes h keys k a c p → Below 256 a → Below 256 k → Below 256 c
     → Ready h a k c p

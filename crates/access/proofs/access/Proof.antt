@@ -33,10 +33,10 @@ page-of-requires : tie.Need-page-of-requires
 page-of-requires c κs = search needs
 
 is-open-requires : tie.Need-is-open-requires
-is-open-requires c κs = entered (c .before) .opening .record681
+is-open-requires c κs = entered (c .before) .opening .control-length
 
 depth-requires : tie.Need-depth-requires
-depth-requires c κs = entered (c .before .before) .opening .record681
+depth-requires c κs = entered (c .before .before) .opening .control-length
 
 state-requires : tie.Need-state-requires
 state-requires c κs =

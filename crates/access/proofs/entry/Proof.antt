@@ -31,7 +31,7 @@ returns-2 : tie.Need-returns-2
 returns-2 c = wrong-buffer _ _ _ _ (opened (c .before)) (c .if2 .taken)
 
 depth-requires : tie.Need-depth-requires
-depth-requires c κs = opened (c .before) .record681
+depth-requires c κs = opened (c .before) .control-length
 
 deep : (c : tie.After-depth) → (1 ≤ c .depth .result) × (c .depth .result ≤ 3)
 deep c = let head = head-of _ _ (opened (c .before .before)) in omega (arith, c .depth .ensures, head .deep, head .flat)
@@ -52,7 +52,7 @@ inside : (c : tie.Else3)
 inside c = omega (arith, lines-are (c .before), c .if3 .left)
 
 count-requires : tie.Need-count-requires
-count-requires c κs = opened (c .before .before .before .before) .record681
+count-requires c κs = opened (c .before .before .before .before) .control-length
 
 returns-4 : tie.Need-returns-4
 returns-4 c =

@@ -29,7 +29,7 @@ opened : (c : tie.Else1) → Opened (start c .args .keys .now) (given c)
 opened c = recovery-opened _ _ (sym (c .before .opening .ensures) ∙ c .if1 .left)
 
 depth-requires : tie.Need-depth-requires
-depth-requires c κs = opened c .record681
+depth-requires c κs = opened c .control-length
 
 deep : (c : tie.After-depth) → (1 ≤ c .depth .result) × (c .depth .result ≤ 3)
 deep c = let head = head-of _ _ (opened (c .before)) in omega (arith, c .depth .ensures, head .deep, head .flat)
@@ -50,7 +50,7 @@ inside : (c : tie.Else2) → let a = start (c .before .before .before) .args in 
 inside c = omega (arith, pages-are (c .before), c .if2 .left)
 
 count-requires : tie.Need-count-requires
-count-requires c κs = opened (c .before .before .before) .record681
+count-requires c κs = opened (c .before .before .before) .control-length
 
 returns-3 : tie.Need-returns-3
 returns-3 c =
@@ -58,7 +58,7 @@ returns-3 c =
     turn-pending _ _ _ (opened (at .before .before .before)) (inside at) (λ e. omega (arith, c .before .count .ensures, c .if3 .taken))
 
 other-open-requires : tie.Need-other-open-requires
-other-open-requires c κs = opened (c .before .before .before .before .before) .record681
+other-open-requires c κs = opened (c .before .before .before .before .before) .control-length
 
 state-requires : tie.Need-state-requires
 state-requires c κs =

@@ -58,7 +58,7 @@ put-tree-requires : tie.Need-put-tree-requires
 put-tree-requires c κs =
     let at = c .before .before .before in
     let f = ok (tested at) in
-    (record { deep = f .low; flat = f .high; keys48 = f .keys48; array = at .zero .kept .0 ∙ f .fits .array }, zeros at)
+    (record { deep = f .low; flat = f .high; keys-length = f .keys-length; array = at .zero .kept .0 ∙ f .fits .array }, zeros at)
 
 node-cell-requires : tie.Need-node-cell-requires
 node-cell-requires c κs =
@@ -76,7 +76,7 @@ node-tag-requires c κs =
     let tree = c .before .before .before .before .before in
     let at = tested (zero-at tree) in
     let a = tree .put-tree .last .1 .1 .0 in (
-      ok at .keys48,
+      ok at .keys-length,
       ap length (c .in-cell .ensures ∙ ap (cellContent a) (c .before .node-cell .ensures))
           ∙ cell-length (start at .args .depth) a _ (full tree) (top-node (start at .args .depth)),
     )
@@ -84,7 +84,7 @@ node-tag-requires c κs =
 put-control-requires : tie.Need-put-control-requires
 put-control-requires c κs =
     let at = tested (zero-at (c .before .before .before .before .before .before .before)) in
-    (ok at .high, ok at .record681)
+    (ok at .high, ok at .control-length)
 
 zero-requires-2 : tie.Need-zero-requires-2
 zero-requires-2 c κs = search needs

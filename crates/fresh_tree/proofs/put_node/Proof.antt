@@ -78,7 +78,7 @@ node-tag-requires : tie.Need-node-tag-requires Inv-loop μ-loop
 node-tag-requires c κs =
     let at = c .before .before .before .before in
     let s = start (at .before) in (
-      s .pre .0 .keys48,
+      s .pre .0 .keys-length,
       ap length (c .in-cell .ensures ∙ ap (cellContent (at .loop .array)) (c .before .node-cell2 .ensures))
           ∙ cell-length (s .args .h) (at .loop .array) _ (at .loop .inv .1 .full) (inside (at .before) _ (omega arith)),
     )

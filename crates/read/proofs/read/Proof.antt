@@ -41,7 +41,7 @@ accepted : (c : tie.Else1) → let a = start (c .before) .args in Accepted (a .k
 accepted c = access-accepted _ _ _ _ (sym (c .before .access .ensures) ∙ c .if1 .left)
 
 depth-requires : tie.Need-depth-requires
-depth-requires c κs = accepted (c .before) .entry .opening .record681
+depth-requires c κs = accepted (c .before) .entry .opening .control-length
 
 read-line-requires : tie.Need-read-line-requires
 read-line-requires c κs = let at = c .before .before .before .before in accepts (accepted (at .before .before)) (at .depth .ensures)

@@ -26,7 +26,7 @@ rebuild-counters-requires : tie.Need-rebuild-counters-requires
 rebuild-counters-requires c κs =
     let at = c .before in
     let l = start at .pre in
-    (l .record681, (sized-as _ (at .depth .ensures) _ _ _ (l .sized) refl, placed-as _ (at .depth .ensures) _ (l .placed)))
+    (l .control-length, (sized-as _ (at .depth .ensures) _ _ _ (l .sized) refl, placed-as _ (at .depth .ensures) _ (l .placed)))
 
 enum-known-counters : tie.Need-enum-known-counters
 enum-known-counters c = search needs
@@ -57,8 +57,8 @@ rebuild-tree-requires c κs =
     let kept = counters .rebuild-counters .kept .1 .1 .1 .1 .0 in (
       at .depth .ensures,
       record {
-        keys48 = l .keys48;
-        record681 = l .record681;
+        keys-length = l .keys-length;
+        control-length = l .control-length;
         sized = sized-as _ refl _ _ _ (l .sized) kept;
         same-length = l .same-length ∙ sym kept;
         placed = l .placed;

@@ -21,14 +21,14 @@ rebuild-nodes-requires : tie.Need-rebuild-nodes-requires
 rebuild-nodes-requires c κs =
     let s = start c in
     let l = s .pre .1 in
-    (l .keys48, (sized-as _ (s .pre .0) _ _ _ (l .sized) refl, placed-as _ (s .pre .0) _ (l .placed)))
+    (l .keys-length, (sized-as _ (s .pre .0) _ _ _ (l .sized) refl, placed-as _ (s .pre .0) _ (l .placed)))
 
 top-tag-requires : tie.Need-top-tag-requires
 top-tag-requires c κs =
     let nodes = c .before .before .before in
     let s = start (nodes .before) in
     let l = s .pre .1 in
-    (l .keys48, sized-as _ (s .pre .0) _ _ _ (l .sized) (nodes .rebuild-nodes .kept .1 .1 .1 .1 .0))
+    (l .keys-length, sized-as _ (s .pre .0) _ _ _ (l .sized) (nodes .rebuild-nodes .kept .1 .1 .1 .1 .0))
 
 -- the nodes and their top, seen from the root
 abbrev filled : tie.After-root → tie.After-rebuild-nodes

@@ -55,14 +55,14 @@ bytes c =
     }
 
 count-requires : tie.Need-count-requires
-count-requires c κs = opened (c .before) .record681
+count-requires c κs = opened (c .before) .control-length
 
 finish-requires : tie.Need-finish-requires
 finish-requires c κs =
     let test = c .before .before .before .before in
     let o = opened test in
     let a = start (test .before) .args in (
-      o .record681,
+      o .control-length,
       (
         head-of _ _ o .few,
         rw (array-cells (depth (a .control .now)) (length (a .array .now)) (o .fits .array)) (valid-parts (o .right) .cells-in),
@@ -131,9 +131,9 @@ recover-media-requires c κs =
     let o = opened test in
     let head = head-of _ _ o in
     let a = start (test .before) .args in (
-      o .keys48,
+      o .keys-length,
       (
-        at .finish .kept .1 .0 ∙ o .record681,
+        at .finish .kept .1 .0 ∙ o .control-length,
         subst (λ (h : ℕ). Sized h (at .finish .last .0) (a .cache .now)) (sym (same-depth at))
             (record { deep = head .deep; flat = head .flat; array = at .finish .kept .0 ∙ o .fits .array; cache = o .fits .cache }),
       ),

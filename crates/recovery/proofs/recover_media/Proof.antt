@@ -100,8 +100,8 @@ rebuild-requires c κs =
     let z = s .pre .1 .1 in
     let full = ap length (empty at) ∙ length-empty (depth (s .args .control .now)) in
     record {
-      keys48 = s .pre .0;
-      record681 = s .pre .1 .0;
+      keys-length = s .pre .0;
+      control-length = s .pre .1 .0;
       sized = record { deep = z .deep; flat = z .flat; array = z .array; cache = full };
       same-length = z .cache ∙ sym full;
       placed =

@@ -37,7 +37,7 @@ accepted : (c : tie.Else1) → let a = start (c .before) .args in TurnAccepted (
 accepted c = turn-accepted _ _ _ (sym (c .before .turning .ensures) ∙ c .if1 .left)
 
 depth-requires : tie.Need-depth-requires
-depth-requires c κs = accepted (c .before) .opening .record681
+depth-requires c κs = accepted (c .before) .opening .control-length
 
 turn-page-requires : tie.Need-turn-page-requires
 turn-page-requires c κs = let at = c .before .before .before in takes (accepted (at .before .before)) (at .depth .ensures)
