@@ -11,6 +11,7 @@ use lib.ListN.{length}
 use Rattle.words.specs.Bytes.{bytesOf}
 use Rattle.memory_map.specs.Map.{slots}
 use Rattle.slot_map.specs.Slots.{cacheLength}
+use Rattle.answer.specs.declared.Answer.{Answer}
 use Rattle.answer.specs.declared.Answer.the-variants.{Done, Refused}
 use Rattle.control.specs.Control.{controlLength, depth, valid}
 use Rattle.control.proofs.Laws.{valid-parts}
@@ -86,11 +87,11 @@ accepted control cache out e =
 
 -- ---- the call
 
-pub refused : (control cache out : List ℕ) (n : ℕ) → n ≡ listRefusal control cache out → (n ≡ 0 → ⊥)
-    → record { answer = Refused n 0 0 0; output = out } ≡ dirtyPages control cache out
+pub refused : (control cache out : List ℕ) (n : ℕ) → n ≡ listRefusal control cache out → (n ≡ 0 → ⊥) → {r : Answer} → r ≡ Refused n 0 0 0
+    → record { answer = r; output = out } ≡ dirtyPages control cache out
 unfolding listJudged
-refused control cache out zero e p = absurd (p refl)
-refused control cache out (suc n) e p = ap (λ (k : ℕ). listJudged k control cache out) e
+refused control cache out zero e p f = absurd (p refl)
+refused control cache out (suc n) e p f = rw f (ap (λ (k : ℕ). listJudged k control cache out) e)
 
 pub listed : (control cache out after : List ℕ) → 0 ≡ listRefusal control cache out
     → after ≡ bytesOf 8 (rising (entry cache 0) (entry cache 1) (entry cache 2) (entry cache 3))

@@ -8,6 +8,7 @@ ghost use Rattle.calls.specs.DirtyPages.{listRefusal, dirtyPages};
 ghost use Rattle.rising.specs.Rising.{rising};
 ghost use Rattle.dirty_pages.specs.Entry.{entry as entryOf};
 use answer::Answer;
+use answer::refuse;
 
 // The refusal of the call, 0 where it has none: 3 21 5 7 23.
 fn refusal(control: &[u8], cache: &[u8], out: &[u8]) -> u64
@@ -67,12 +68,7 @@ pub fn dirty_pages(control: &[u8], cache: &[u8], out: &mut [u8]) -> Answer
 {
     let number = refusal(control, cache, out);
     if number != 0 {
-        return Answer::Refused {
-            number,
-            stores: 0,
-            first: 0,
-            second: 0,
-        };
+        return refuse(number, 0, 0);
     }
     put_pages(cache, out);
     Answer::Done { stores: 0, sum: 0 }

@@ -14,6 +14,7 @@ use Rattle.memory_map.specs.Map.Item.{node}
 use Rattle.memory_map.proofs.Laws.{nodes-some}
 use Rattle.slot_map.specs.Slots.{cacheLength}
 use Rattle.tag.specs.Tag.{nodeTag}
+use Rattle.answer.specs.declared.Answer.{Answer}
 use Rattle.answer.specs.declared.Answer.the-variants.{Done, Refused}
 use Rattle.control.specs.Control.{controlLength, mark, freshControl}
 use Rattle.cache.specs.Cache.{cellContent}
@@ -68,11 +69,11 @@ module _ (keys : List ℕ) (h : ℕ) (m : Module) where
 
   -- ---- the call
 
-  pub refused : (n : ℕ) → n ≡ formatRefusal keys h m → (n ≡ 0 → ⊥)
-      → ended (Refused n 0 0 0) (m .array) (m .control) (m .cache) ≡ format keys h m
+  pub refused : (n : ℕ) → n ≡ formatRefusal keys h m → (n ≡ 0 → ⊥) → {r : Answer} → r ≡ Refused n 0 0 0
+      → ended r (m .array) (m .control) (m .cache) ≡ format keys h m
   unfolding format
-  refused zero e p = absurd (p refl)
-  refused (suc n) e p = rw (format, ← e)
+  refused zero e p f = absurd (p refl)
+  refused (suc n) e p f = rw (f, format, ← e)
 
   pub done : 0 ≡ formatRefusal keys h m → {a k c : List ℕ} {r : ℕ} → a ≡ freshArray keys h → k ≡ freshControl h r
       → r ≡ freshRoot keys none none h → c ≡ replicate (cacheLength h) 0 → ended (Done 0 0) a k c ≡ format keys h m

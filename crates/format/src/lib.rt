@@ -6,6 +6,7 @@ ghost use Rattle.control.specs.Control.{controlLength, freshControl};
 ghost use Rattle.calls.specs.Call.{buffers, ended};
 ghost use Rattle.calls.specs.Format.{formatRefusal, format as formatOf};
 use answer::Answer;
+use answer::refuse;
 
 // The refusal of the call, 0 where it has none: 1 2 3 4 5.
 fn refusal(depth: u64, keys: &[u8], control: &[u8], array: &[u8], cache: &[u8]) -> u64
@@ -60,12 +61,7 @@ pub fn format(
 {
     let number = refusal(depth, keys, control, array, cache);
     if number != 0 {
-        return Answer::Refused {
-            number,
-            stores: 0,
-            first: 0,
-            second: 0,
-        };
+        return refuse(number, 0, 0);
     }
     let h = depth as usize;
     let size = array.len();

@@ -12,6 +12,7 @@ ghost use Rattle.calls.specs.Path.{loadPath};
 ghost use Rattle.call_laws.specs.Walk.{missing as missingNodes, expectedTag};
 ghost use Rattle.path.specs.Told.{told, refusalOf, CounterOf};
 use answer::Answer;
+use answer::refuse;
 use memory_map::on_path;
 
 // What walking a path finds: how many of its nodes the cache lacks, or the first of those whose tag differs.
@@ -87,18 +88,8 @@ pub fn refused(path: Path) -> Answer
     ensures { λ r. ⌜ r ≡ refusalOf path ⌝ }
 {
     match path {
-        Path::Loaded { missing: _ } => Answer::Refused {
-            number: 24,
-            stores: 0,
-            first: 0,
-            second: 0,
-        },
-        Path::Differs { level, index } => Answer::Refused {
-            number: 24,
-            stores: 0,
-            first: level,
-            second: index,
-        },
+        Path::Loaded { missing: _ } => refuse(24, 0, 0),
+        Path::Differs { level, index } => refuse(24, level, index),
     }
 }
 

@@ -34,9 +34,10 @@ abbrev plain : List ℕ → List ℕ → ℕ → Counter → List ℕ
 plain keys a line n = xorBytes (cellContent a line) (pad keys line (n .major) (n .minor))
 
 pub read-differs : (keys : List ℕ) (line allowance : ℕ) (out : List ℕ) (m : Module) {l i : ℕ} → pathOf keys line m ≡ differs l i
-    → endedRead (Refused 24 0 l i) (m .array) (m .control) (m .cache) out ≡ readPath keys line allowance m out (pathOf keys line m)
+    → {r : Answer} → r ≡ Refused 24 0 l i
+    → endedRead r (m .array) (m .control) (m .cache) out ≡ readPath keys line allowance m out (pathOf keys line m)
 unfolding readPath
-read-differs keys line allowance out m e = sym (ap (readPath keys line allowance m out) e)
+read-differs keys line allowance out m e f = rw f (sym (ap (readPath keys line allowance m out) e))
 
 -- the path is loaded, and n is the line's counter
 module _ {h : ℕ} {keys a k c : List ℕ} {line : ℕ} {n : Counter} (found : Found h keys a k c line n) (allowance : ℕ) (out : List ℕ) where
@@ -77,8 +78,8 @@ module _ {h : ℕ} {keys a k c : List ℕ} {line : ℕ} {n : Counter} (found : F
       ∙ ap₂ {C = Reading} (tested b) (side-same ∙ f) text-same
 
   -- 25
-  pub read-side : (n .minor ≡ 0 → ⊥) → sideIs keys a line n ≡ false → endedRead (Refused 25 0 line 0) a k c out ≡ whole
-  read-side some e = sym (by-tests false false (ne-eqb (n .minor) 0 some) e)
+  pub read-side : (n .minor ≡ 0 → ⊥) → sideIs keys a line n ≡ false → {r : Answer} → r ≡ Refused 25 0 line 0 → endedRead r a k c out ≡ whole
+  read-side some e f = rw f (sym (by-tests false false (ne-eqb (n .minor) 0 some) e))
 
   -- what a read that passes gives
   abbrev answer : Bool → ℕ → Answer
@@ -134,11 +135,11 @@ module _ {h : ℕ} {keys a k c : List ℕ} {line : ℕ} {n : Counter} (found : F
 -- ---- refused, or accepted
 
 module _ (keys : List ℕ) (line allowance : ℕ) (out a k c : List ℕ) where
-  pub read-refused : (n : ℕ) → n ≡ accessRefusal keys line out (buffers a k c) → (n ≡ 0 → ⊥)
-      → endedRead (Refused n 0 0 0) a k c out ≡ read keys line allowance out (buffers a k c)
+  pub read-refused : (n : ℕ) → n ≡ accessRefusal keys line out (buffers a k c) → (n ≡ 0 → ⊥) → {r : Answer} → r ≡ Refused n 0 0 0
+      → endedRead r a k c out ≡ read keys line allowance out (buffers a k c)
   unfolding readJudged
-  read-refused zero e p = absurd (p refl)
-  read-refused (suc n) e p = ap (λ (i : ℕ). readJudged i keys line allowance (buffers a k c) out) e
+  read-refused zero e p f = absurd (p refl)
+  read-refused (suc n) e p f = rw f (ap (λ (i : ℕ). readJudged i keys line allowance (buffers a k c) out) e)
 
   pub read-accepted : 0 ≡ accessRefusal keys line out (buffers a k c)
       → readPath keys line allowance (buffers a k c) out (pathOf keys line (buffers a k c)) ≡ read keys line allowance out (buffers a k c)

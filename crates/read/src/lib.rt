@@ -10,6 +10,7 @@ ghost use Rattle.node.specs.Sized.{Sized};
 ghost use Rattle.calls.specs.Call.{buffers, pathOf};
 ghost use Rattle.calls.specs.Read.{endedRead, readPath, read as reading};
 use answer::Answer;
+use answer::refuse;
 use path::Path;
 
 // Reads a line of a module that is accepted.
@@ -37,12 +38,7 @@ fn read_line(
     let counter = path::line_counter(h, array, cache, line);
     if counter.minor != 0 {
         if !line_text::side_ok(keys, array, line, counter.major, counter.minor) {
-            return Answer::Refused {
-                number: 25,
-                stores: 0,
-                first: line as u64,
-                second: 0,
-            };
+            return refuse(25, line as u64, 0);
         }
     }
     let ended = loading::settle(h, control, array, cache, p, missing, allowance);
@@ -68,12 +64,7 @@ pub fn read(
 {
     let number = access::access(keys, control, array, cache, line, out);
     if number != 0 {
-        return Answer::Refused {
-            number,
-            stores: 0,
-            first: 0,
-            second: 0,
-        };
+        return refuse(number, 0, 0);
     }
     read_line(
         control::depth(control),

@@ -23,7 +23,7 @@ use Rattle.cache.proofs.Laws.{owned, getD-from}
 use Rattle.journal.specs.Journal.{Store, Media, media, storeAll, pendingStores, made, isCut, Stored}
 use Rattle.journal.proofs.Laws.{length-finish, pending-some, pending-none, less-cut, enough-whole}
 use Rattle.node.specs.Sized.{Sized}
-use Rattle.calls.specs.Call.{Module, Called, buffers, ended, refuse, mediaOf, withMedia}
+use Rattle.calls.specs.Call.{Module, Called, buffers, ended, mediaOf, withMedia}
 use Rattle.calls.specs.Recovery.{soFar, rebuildBlocks, rebuildNodes, refuseAfter, recoveryRefusal, recover}
 use Rattle.calls.specs.Recovery.{recoverRoot, recoverRebuilt, recoverShadow, recoverMedia, recoverJudged}
 use Rattle.forwarding.specs.Rebuild.{Placed}
@@ -40,9 +40,9 @@ module _ (h : ℕ) {n : ℕ} (same : n ≡ h) where
   placed-as os = subst (λ (k : ℕ). Placed k os) (sym same)
 
 -- a refusal, as the code tells it
-pub refused-as : (m : Module) {k n x : ℕ} {r : Answer} → r ≡ Refused n k x 0
-    → ended r (m .array) (m .control) (m .cache) ≡ refuseAfter k m n x
-refused-as m e = ap (λ (r : Answer). ended r (m .array) (m .control) (m .cache)) e
+pub refused-as : (m : Module) {k n x : ℕ} {l : Called} → refuseAfter k m n x ≡ l → {r : Answer} → r ≡ Refused n k x 0
+    → ended r (m .array) (m .control) (m .cache) ≡ l
+refused-as m e f = rw f e
 
 module _ (keys : List ℕ) (k : ℕ) (m : Module) (os : List ℕ) where
   abbrev h : ℕ
@@ -128,10 +128,11 @@ module _ (k : List ℕ) {n : ℕ} (number : n ≡ count k) where
       ap length (pending-some k (omega arith)) ∙ length-finish _ _ ∙ ap (λ (i : ℕ). i + 2) (length-places k _ (count k) ∙ sym number)
 
 module _ (keys : List ℕ) (allowance : ℕ) (m : Module) where
-  pub ends-refused : (n : ℕ) → n ≡ recoveryRefusal keys m → (n ≡ 0 → ⊥) → refuse m n 0 0 ≡ recover keys allowance m
+  pub ends-refused : (n : ℕ) → n ≡ recoveryRefusal keys m → (n ≡ 0 → ⊥) → {r : Answer} → r ≡ Refused n 0 0 0
+      → ended r (m .array) (m .control) (m .cache) ≡ recover keys allowance m
   unfolding recoverJudged
-  ends-refused zero e p = absurd (p refl)
-  ends-refused (suc n) e p = ap (λ (i : ℕ). recoverJudged i keys allowance m) e
+  ends-refused zero e p f = absurd (p refl)
+  ends-refused (suc n) e p f = rw f (ap (λ (i : ℕ). recoverJudged i keys allowance m) e)
 
   abbrev xs : List Store
   xs = pendingStores (m .control)

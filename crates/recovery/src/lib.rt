@@ -2,27 +2,16 @@
 ghost use mathlib.Core.Path.{_≡_};
 ghost use lib.ListN.{length, take};
 ghost use Rattle.memory_map.specs.Map.{slots as slotsOf};
-ghost use Rattle.answer.specs.declared.Answer.the-variants.{Refused};
 ghost use Rattle.control.specs.Control.{controlLength, depth as depthOf};
 ghost use Rattle.node.specs.Sized.{Sized};
 ghost use Rattle.calls.specs.Call.{buffers, ended};
 ghost use Rattle.calls.specs.Recovery.{soFar, rebuildBlocks, recoverRebuilt, recoverMedia, recover as recoverOf};
 ghost use Rattle.recovery.specs.Lent.{Lent};
 use answer::Answer;
+use answer::refuse;
+use answer::refuse_after;
 use cache::Found;
 use forwarding::Counters;
-
-// A refusal after the pending stores, with the first number of its place.
-fn refuse_after(stores: u64, number: u64, first: u64) -> Answer
-    ensures { λ r. ⌜ r ≡ Refused number stores first 0 ⌝ }
-{
-    Answer::Refused {
-        number,
-        stores,
-        first,
-        second: 0,
-    }
-}
 
 // Rebuilds the nodes over the counters in an image, and holds the top against the root. Only a done recovery changes the cache.
 fn rebuild_tree(
@@ -43,7 +32,7 @@ fn rebuild_tree(
 {
     rebuilding::rebuild_nodes(h, keys, array, owners, image);
     if rebuilding::top_tag(h, keys, array, image) != control::root(control) {
-        return refuse_after(stores, 29, 0);
+        return refuse_after(stores, 29, 0, 0);
     }
     let n = cache.len();
     copying::copy(cache, 0, image, 0, n);
@@ -73,8 +62,8 @@ fn rebuild(
         Counters::Sum(sum) => {
             rebuild_tree(h, keys, control, array, owners, stores, sum, image, cache)
         }
-        Counters::BadPhase(line) => refuse_after(stores, 28, line),
-        Counters::BadMinor(line) => refuse_after(stores, 32, line),
+        Counters::BadPhase(line) => refuse_after(stores, 28, line, 0),
+        Counters::BadMinor(line) => refuse_after(stores, 32, line, 0),
     }
 }
 
@@ -89,7 +78,7 @@ fn recover_media(keys: &[u8], control: &[u8], array: &[u8], cache: &mut [u8], st
     let owners = shadow::shadow_owners(h, array);
     let bad = shadow::bad_slot(h, owners);
     if let Found::At(s) = bad {
-        return refuse_after(stores, 27, s as u64);
+        return refuse_after(stores, 27, s as u64, 0);
     }
     let mut image = [0u8; 730];
     let n = cache.len();
@@ -117,12 +106,7 @@ pub fn recover(
 {
     let number = access::opening(keys, control, array, cache);
     if number != 0 {
-        return Answer::Refused {
-            number,
-            stores: 0,
-            first: 0,
-            second: 0,
-        };
+        return refuse(number, 0, 0);
     }
     let n = control::count(control);
     let stores = journal::finish(array, control, allowance);

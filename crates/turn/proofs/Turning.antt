@@ -11,6 +11,7 @@ use Rattle.words.proofs.Digits.{Below}
 use Rattle.bits.specs.Bits.{setBits}
 use Rattle.memory_map.specs.Map.{pages}
 use Rattle.counter.specs.Counter.{major, minors, writtenFrom}
+use Rattle.answer.specs.declared.Answer.{Answer}
 use Rattle.answer.specs.declared.Answer.the-variants.{Refused}
 use Rattle.control.specs.Control.{Cell, controlLength, depth, isOpen, turnMask}
 use Rattle.cache.specs.Cache.{formed, current}
@@ -72,10 +73,10 @@ module _ {h : ℕ} {a k c : List ℕ} {p : ℕ} (y : Ready h a k c p) where
   turn-places are-minors e = places-same k (withPath h a p (suc h) c) p (minors-loaded are-minors) e
 
 module _ (keys : List ℕ) (p allowance : ℕ) (m : Module) where
-  pub turn-differs : {l i : ℕ} → pagePath keys p m ≡ differs l i
-      → ended (Refused 24 0 l i) (m .array) (m .control) (m .cache) ≡ turnPath keys p allowance m (pagePath keys p m)
+  pub turn-differs : {l i : ℕ} → pagePath keys p m ≡ differs l i → {r : Answer} → r ≡ Refused 24 0 l i
+      → ended r (m .array) (m .control) (m .cache) ≡ turnPath keys p allowance m (pagePath keys p m)
   unfolding turnPath
-  turn-differs e = sym (ap (turnPath keys p allowance m) e)
+  turn-differs e f = rw f (sym (ap (turnPath keys p allowance m) e))
 
   pub turn-loads : {c : List ℕ} {x : List Cell} → pagePath keys p m ≡ loaded c x
       → turnLoaded keys p allowance m c x ≡ turnPath keys p allowance m (pagePath keys p m)
@@ -83,11 +84,11 @@ module _ (keys : List ℕ) (p allowance : ℕ) (m : Module) where
   turn-loads e = sym (ap (turnPath keys p allowance m) e)
 
   -- refused, or accepted
-  pub turn-refused : (n : ℕ) → n ≡ turnRefusal keys p m → (n ≡ 0 → ⊥)
-      → ended (Refused n 0 0 0) (m .array) (m .control) (m .cache) ≡ turn keys p allowance m
+  pub turn-refused : (n : ℕ) → n ≡ turnRefusal keys p m → (n ≡ 0 → ⊥) → {r : Answer} → r ≡ Refused n 0 0 0
+      → ended r (m .array) (m .control) (m .cache) ≡ turn keys p allowance m
   unfolding turnJudged
-  turn-refused zero e q = absurd (q refl)
-  turn-refused (suc n) e q = ap (λ (i : ℕ). turnJudged i keys p allowance m) e
+  turn-refused zero e q f = absurd (q refl)
+  turn-refused (suc n) e q f = rw f (ap (λ (i : ℕ). turnJudged i keys p allowance m) e)
 
   pub turn-judged : 0 ≡ turnRefusal keys p m → turnPath keys p allowance m (pagePath keys p m) ≡ turn keys p allowance m
   unfolding turnJudged
@@ -119,8 +120,8 @@ module _ {h : ℕ} {a k c : List ℕ} {p : ℕ} (y : Ready h a k c p) (keys : Li
       (ap (λ (i : ℕ). eqb i (2 ^ 64 - 1)) (sym major-same) ∙ e)
 
   -- 31
-  pub turn-full : ma ≡ 2 ^ 64 - 1 → ended (Refused 31 0 0 0) a k c ≡ whole
-  turn-full e = sym (by-major true (eq-eqb ma (2 ^ 64 - 1) e))
+  pub turn-full : ma ≡ 2 ^ 64 - 1 → {r : Answer} → r ≡ Refused 31 0 0 0 → ended r a k c ≡ whole
+  turn-full e f = rw f (sym (by-major true (eq-eqb ma (2 ^ 64 - 1) e)))
 
   -- ms are the page's minors, the places still to turn are the mask's, and f is the first line that does not fit
   module _ (more : ma ≡ 2 ^ 64 - 1 → ⊥) {ms : List ℕ} (are-minors : ms ≡ minors (current h a c 0 p)) (mask : ℕ)
@@ -132,9 +133,9 @@ module _ {h : ℕ} {a k c : List ℕ} {p : ℕ} (y : Ready h a k c p) (keys : Li
         ∙ sym (by-major false (ne-eqb ma (2 ^ 64 - 1) more))
 
     -- 25
-    pub turn-bad : {n : ℕ} → f ≡ At n → ended (Refused 25 0 n 0) a k c ≡ whole
+    pub turn-bad : {n : ℕ} → f ≡ At n → {r : Answer} → r ≡ Refused 25 0 n 0 → ended r a k c ≡ whole
     unfolding turnChecked
-    turn-bad e = sym (ap checked e) ∙ by-line
+    turn-bad e g = rw g (sym (ap checked e) ∙ by-line)
 
     pub turn-stored : f ≡ Nothing → checked Nothing ≡ whole
     turn-stored e = sym (ap checked e) ∙ by-line

@@ -11,6 +11,7 @@ ghost use Rattle.calls.specs.Call.{buffers, ended};
 ghost use Rattle.calls.specs.Turn.{pagePath, turnLoaded, turnPath, turn as turning};
 ghost use Rattle.call_laws.specs.Walk.{missing as missingNodes, pathCells, withPath};
 use answer::Answer;
+use answer::refuse;
 use cache::Found;
 use path::Path;
 
@@ -35,24 +36,14 @@ fn turn_loaded(
     let block = node::current(h, array, cache, 0, p);
     let major = counter::major(block);
     if major == 0xffff_ffff_ffff_ffff {
-        return Answer::Refused {
-            number: 31,
-            stores: 0,
-            first: 0,
-            second: 0,
-        };
+        return refuse(31, 0, 0);
     }
     let mut minors = [0u8; 64];
     minors::unpack(block, &mut minors);
     let mask = turn_check::places(control, p, &minors);
     let bad = turn_check::bad_line(keys, array, p, major, &minors, mask);
     if let Found::At(line) = bad {
-        return Answer::Refused {
-            number: 25,
-            stores: 0,
-            first: line as u64,
-            second: 0,
-        };
+        return refuse(25, line as u64, 0);
     }
     turn_store::store_page(
         h,
@@ -106,12 +97,7 @@ pub fn turn(
 {
     let number = access::turning(keys, control, array, cache, page);
     if number != 0 {
-        return Answer::Refused {
-            number,
-            stores: 0,
-            first: 0,
-            second: 0,
-        };
+        return refuse(number, 0, 0);
     }
     turn_page(
         control::depth(control),

@@ -9,6 +9,7 @@ use lib.Dec.{eqb}
 use lib.ListN.{length}
 use Rattle.memory_map.specs.Map.{pageOf, placeOf}
 use Rattle.counter.specs.Counter.{withMinor, phaseOf}
+use Rattle.answer.specs.declared.Answer.{Answer}
 use Rattle.answer.specs.declared.Answer.the-variants.{Done, Refused}
 use Rattle.control.specs.Control.{Cell}
 use Rattle.cache.specs.Cache.{current}
@@ -25,9 +26,10 @@ use Rattle.path.proofs.Ready.{Found, block-found, major-found, minor-found}
 use Rattle.line_store.specs.Stored.{storedLine}
 
 pub write-differs : (keys : List ℕ) (line : ℕ) (text : List ℕ) (allowance : ℕ) (m : Module) {l i : ℕ} → pathOf keys line m ≡ differs l i
-    → ended (Refused 24 0 l i) (m .array) (m .control) (m .cache) ≡ writePath keys line text allowance m (pathOf keys line m)
+    → {r : Answer} → r ≡ Refused 24 0 l i
+    → ended r (m .array) (m .control) (m .cache) ≡ writePath keys line text allowance m (pathOf keys line m)
 unfolding writePath
-write-differs keys line text allowance m e = sym (ap (writePath keys line text allowance m) e)
+write-differs keys line text allowance m e f = rw f (sym (ap (writePath keys line text allowance m) e))
 
 -- the path is loaded, and n is the line's counter
 module _ {h : ℕ} {keys a k c : List ℕ} {line : ℕ} {n : Counter} (found : Found h keys a k c line n) (text : List ℕ) (allowance : ℕ) where
@@ -86,8 +88,8 @@ module _ {h : ℕ} {keys a k c : List ℕ} {line : ℕ} {n : Counter} (found : F
       ∙ ap (λ (i : ℕ). stored full (lineCells h keys c line text (n .major) (n .minor + 1) next) next (eqb (phaseOf i) 0)) next-minor
 
   -- 26
-  pub write-full : n .minor ≡ 127 → ended (Refused 26 0 0 0) a k c ≡ whole
-  write-full e = sym (by-minor true (eq-eqb (n .minor) 127 e))
+  pub write-full : n .minor ≡ 127 → {r : Answer} → r ≡ Refused 26 0 0 0 → ended r a k c ≡ whole
+  write-full e f = rw f (sym (by-minor true (eq-eqb (n .minor) 127 e)))
 
   pub write-stored : (n .minor ≡ 127 → ⊥) → storedLine h keys line text (n .major) (n .minor + 1) next allowance m ≡ whole
   write-stored e = sym (by-minor false (ne-eqb (n .minor) 127 e))
@@ -95,11 +97,11 @@ module _ {h : ℕ} {keys a k c : List ℕ} {line : ℕ} {n : Counter} (found : F
 -- ---- refused, or accepted
 
 module _ (keys : List ℕ) (line : ℕ) (text : List ℕ) (allowance : ℕ) (a k c : List ℕ) where
-  pub write-refused : (n : ℕ) → n ≡ accessRefusal keys line text (buffers a k c) → (n ≡ 0 → ⊥)
-      → ended (Refused n 0 0 0) a k c ≡ write keys line text allowance (buffers a k c)
+  pub write-refused : (n : ℕ) → n ≡ accessRefusal keys line text (buffers a k c) → (n ≡ 0 → ⊥) → {r : Answer} → r ≡ Refused n 0 0 0
+      → ended r a k c ≡ write keys line text allowance (buffers a k c)
   unfolding writeJudged
-  write-refused zero e p = absurd (p refl)
-  write-refused (suc n) e p = ap (λ (i : ℕ). writeJudged i keys line text allowance (buffers a k c)) e
+  write-refused zero e p f = absurd (p refl)
+  write-refused (suc n) e p f = rw f (ap (λ (i : ℕ). writeJudged i keys line text allowance (buffers a k c)) e)
 
   pub write-accepted : 0 ≡ accessRefusal keys line text (buffers a k c)
       → writePath keys line text allowance (buffers a k c) (pathOf keys line (buffers a k c))

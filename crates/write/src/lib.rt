@@ -13,6 +13,7 @@ ghost use Rattle.calls.specs.Write.{writePath, write as writing};
 ghost use Rattle.call_laws.specs.Walk.{missing as missingNodes};
 ghost use Rattle.line_store.specs.Stored.{storedLine};
 use answer::Answer;
+use answer::refuse;
 use path::Path;
 
 // Writes a text at a counter that is the line's next.
@@ -81,12 +82,7 @@ fn write_line(
     };
     let counter = path::line_counter(h, array, cache, line);
     if counter.minor == 127 {
-        return Answer::Refused {
-            number: 26,
-            stores: 0,
-            first: 0,
-            second: 0,
-        };
+        return refuse(26, 0, 0);
     }
     raise(
         h,
@@ -119,12 +115,7 @@ pub fn write(
 {
     let number = access::access(keys, control, array, cache, line, text);
     if number != 0 {
-        return Answer::Refused {
-            number,
-            stores: 0,
-            first: 0,
-            second: 0,
-        };
+        return refuse(number, 0, 0);
     }
     write_line(
         control::depth(control),

@@ -12,8 +12,11 @@ refusal-requires c κs = search needs
 same-length : tie.Need-same-length
 same-length c = search needs
 
+refuse-requires : tie.Need-refuse-requires
+refuse-requires c κs = search needs
+
 returns : tie.Need-returns
-returns c = refused _ _ _ _ (c .before .refusal .ensures) (c .if1 .taken)
+returns c = refused _ _ _ _ (c .before .before .refusal .ensures) (c .before .if1 .taken) (c .refuse .ensures)
 
 -- past the test
 none : (c : tie.Else1)
@@ -33,4 +36,4 @@ returns-2 c =
     listed _ _ _ _ (none (pages .before .before)) (pages .put-pages .ensures)
 
 pub dirty-pages-spec : {M : Type 1} → statement M
-dirty-pages-spec = tie.close (tie.spec refusal-requires same-length returns put-pages-requires same-length-2 returns-2)
+dirty-pages-spec = tie.close (tie.spec refusal-requires refuse-requires same-length returns put-pages-requires same-length-2 returns-2)

@@ -25,8 +25,11 @@ same-length-2 c = search needs
 same-length-3 : tie.Need-same-length-3
 same-length-3 c = search needs
 
+refuse-requires : tie.Need-refuse-requires
+refuse-requires c κs = search needs
+
 returns : tie.Need-returns
-returns c = refused _ _ _ _ (c .before .refusal .ensures) (c .if1 .taken)
+returns c = refused _ _ _ _ (c .before .before .refusal .ensures) (c .before .if1 .taken) (c .refuse .ensures)
 
 -- past the test
 abbrev start : tie.Else1 → tie.Start
@@ -117,6 +120,7 @@ format-spec =
     tie.close
     (tie.spec
     refusal-requires
+    refuse-requires
     same-length
     same-length-2
     same-length-3

@@ -9,13 +9,11 @@ use borrow.Author.Tests.{not-true, not-false}
 use lib.ListN.{length}
 use Rattle.memory_map.specs.Map.{pageOf}
 use Rattle.memory_map.proofs.Laws.{lines-small}
-use Rattle.answer.specs.declared.Answer.{Answer}
 use Rattle.answer.specs.declared.Answer.the-variants.{Done}
 use Rattle.control.specs.Control.{root}
 use Rattle.node.proofs.Laws.{line-room}
 use Rattle.calls.specs.Path.{loaded}
 use Rattle.calls.specs.Call.{buffers, ended, storing, pathOf}
-use Rattle.calls.specs.Read.{endedRead}
 use Rattle.path.specs.Told.{refusalOf}
 use Rattle.call_laws.specs.Walk.{missing, pathCells, pathStores, withPath}
 use Rattle.path.proofs.Ready.{Ready, Found, ready-of, walk-differs, walk-loaded, minor-small}
@@ -77,12 +75,10 @@ returns c =
     let at = known walk in
     let a = start at .args in
     let told = c .before .enum-told .given .1 in
-    ap (λ (r : Answer). endedRead r (a .array .now) (a .control .now) (a .cache .now) (a .out .now))
-    (c .refused .ensures ∙ ap refusalOf told)
-    ∙ read-differs (a .keys .now) (a .line) (a .allowance) (a .out .now) (buffers (a .array .now) (a .control .now) (a .cache .now))
+    read-differs (a .keys .now) (a .line) (a .allowance) (a .out .now) (buffers (a .array .now) (a .control .now) (a .cache .now))
     (walk-differs (a .keys .now) (pageOf (a .line)) (ready at) (start at .pre .1 .1 .0)
     (walk .before .before .before .before .before .page-of .ensures)
-    (walk .before .root .ensures) (walk .walk .ensures) told)
+    (walk .before .root .ensures) (walk .walk .ensures) told) (c .refused .ensures ∙ ap refusalOf told)
 
 -- the path is loaded
 abbrev walked : tie.After-path → tie.After-walk
@@ -124,6 +120,9 @@ side-ok-requires c κs =
     let at = known (walked (c .before .before .before .before .before .before .before)) in
     (start at .pre .0, room at)
 
+refuse-requires : tie.Need-refuse-requires
+refuse-requires c κs = search needs
+
 same-length-4 : tie.Need-same-length-4
 same-length-4 c = search needs
 
@@ -135,11 +134,11 @@ same-length-6 c = search needs
 
 returns-2 : tie.Need-returns-2
 returns-2 c =
-    let side = c .before in
+    let side = c .before .before in
     let count = side .before .before .before .before in
     let a = start (known (walked (seen count))) .args in
     read-side (found count) (a .allowance) (a .out .now) (side .before .before .if1 .taken)
-    (sym (side .side-ok .ensures) ∙ not-true (side .side-ok .result) (c .if2 .taken))
+    (sym (side .side-ok .ensures) ∙ not-true (side .side-ok .result) (c .before .if2 .taken)) (c .refuse .ensures)
 
 -- its side bytes are right, or it was never written
 passes : (c : tie.Joined1)
@@ -262,6 +261,7 @@ read-line-spec =
     returns
     line-counter-requires
     side-ok-requires
+    refuse-requires
     same-length-4
     same-length-5
     same-length-6

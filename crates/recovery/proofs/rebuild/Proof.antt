@@ -98,7 +98,7 @@ unfolding counted recoverRebuilt refusalOf
 returns-2 c =
     let told = c .before in
     let counters = told .before .before .before .before .before in
-    refused-as (given (counters .before .before)) (c .refuse-after .ensures) ∙ ends-as counters (told .before .counters2 .given .1)
+    refused-as (given (counters .before .before)) (ends-as counters (told .before .counters2 .given .1)) (c .refuse-after .ensures)
 
 same-length-4 : tie.Need-same-length-4
 same-length-4 c = search needs
@@ -108,7 +108,7 @@ unfolding counted recoverRebuilt refusalOf
 returns-3 c =
     let told = c .before in
     let counters = told .before .before .before .before .before in
-    refused-as (given (counters .before .before)) (c .refuse-after2 .ensures) ∙ ends-as counters (told .before .counters3 .given .1)
+    refused-as (given (counters .before .before)) (ends-as counters (told .before .counters3 .given .1)) (c .refuse-after2 .ensures)
 
 pub rebuild-spec : {M : Type 1} → statement M
 rebuild-spec =

@@ -73,9 +73,9 @@ returns : tie.Need-returns
 returns c =
     let at = c .before .before in
     let a = entered at .args in
-    refused-as (given at) (c .refuse-after .ensures)
-    ∙ ends-differs (a .keys .now) (a .stores) (given at) _ (a .image .now) (a .sum) (nodes-as at) (tag-as at) (at .root .ensures)
-    (c .before .if1 .taken)
+    refused-as (given at)
+    (ends-differs (a .keys .now) (a .stores) (given at) _ (a .image .now) (a .sum) (nodes-as at) (tag-as at) (at .root .ensures)
+    (c .before .if1 .taken)) (c .refuse-after .ensures)
 
 copy-requires : tie.Need-copy-requires
 copy-requires c κs = search needs

@@ -35,11 +35,14 @@ same-length-2 c = search needs
 same-length-3 : tie.Need-same-length-3
 same-length-3 c = search needs
 
+refuse-requires : tie.Need-refuse-requires
+refuse-requires c κs = search needs
+
 returns : tie.Need-returns
 returns c =
-    let a = start (c .before) .args in
-    ends-refused (a .keys .now) (a .allowance) (given (c .before)) (c .before .opening .result) (c .before .opening .ensures)
-    (c .if1 .taken)
+    let at = c .before .before in
+    let a = start at .args in
+    ends-refused (a .keys .now) (a .allowance) (given at) _ (at .opening .ensures) (c .before .if1 .taken) (c .refuse .ensures)
 
 -- past the refusals
 opened : (c : tie.Else1) → Opened (start (c .before) .args .keys .now) (given (c .before))
@@ -164,6 +167,7 @@ recover-spec =
     tie.close
     (tie.spec
     opening-requires
+    refuse-requires
     same-length
     same-length-2
     same-length-3

@@ -61,9 +61,9 @@ returns c =
     let found = told .before .before .before in
     let at = found .before .before in
     let a = start at .args in
-    refused-as (given at) (c .refuse-after .ensures)
-    ∙ ends-bad (a .keys .now) (a .stores) (given at) (found .before .shadow-owners .result) (listed (found .before)) (searched found)
-    (told .before .bad .given .1)
+    refused-as (given at)
+    (ends-bad (a .keys .now) (a .stores) (given at) (found .before .shadow-owners .result) (listed (found .before)) (searched found)
+    (told .before .bad .given .1)) (c .refuse-after .ensures)
 
 enum-told : tie.Need-enum-told
 enum-told c = search needs

@@ -26,11 +26,14 @@ start c = c .before .before .before .before .before .before .before .before
 abbrev given : tie.After-turning → Module
 given c = let a = start c .args in buffers (a .array .now) (a .control .now) (a .cache .now)
 
+refuse-requires : tie.Need-refuse-requires
+refuse-requires c κs = search needs
+
 returns : tie.Need-returns
 returns c =
-    let a = start (c .before) .args in
-    turn-refused (a .keys .now) (a .page) (a .allowance) (given (c .before)) (c .before .turning .result) (c .before .turning .ensures)
-    (c .if1 .taken)
+    let at = c .before .before in
+    let a = start at .args in
+    turn-refused (a .keys .now) (a .page) (a .allowance) (given at) _ (at .turning .ensures) (c .before .if1 .taken) (c .refuse .ensures)
 
 -- past it
 accepted : (c : tie.Else1) → let a = start (c .before) .args in TurnAccepted (a .keys .now) (a .page) (given (c .before))
@@ -64,6 +67,7 @@ turn-spec =
     tie.close
     (tie.spec
     turning-requires
+    refuse-requires
     same-length
     same-length-2
     same-length-3

@@ -47,11 +47,14 @@ same-length c = search needs
 same-length-2 : tie.Need-same-length-2
 same-length-2 c = search needs
 
+refuse-requires : tie.Need-refuse-requires
+refuse-requires c κs = search needs
+
 returns : tie.Need-returns
 returns c =
-    let at = known (c .before .before) in
+    let at = known (c .before .before .before) in
     let a = start at .args in
-    turn-full (ready at) (a .keys .now) (a .allowance) (is-major (c .before)) (c .if1 .taken)
+    turn-full (ready at) (a .keys .now) (a .allowance) (is-major (c .before .before)) (c .before .if1 .taken) (c .refuse .ensures)
 
 -- there is a next major
 more : (c : tie.Else1) → suc (c .before .major .result) < 2 ^ 64
@@ -102,14 +105,18 @@ same-length-4 c = search needs
 same-length-5 : tie.Need-same-length-5
 same-length-5 c = search needs
 
+refuse-requires-2 : tie.Need-refuse-requires-2
+refuse-requires-2 c κs = search needs
+
 returns-2 : tie.Need-returns-2
 returns-2 c =
-    let look = c .before .before .before in
+    let look = c .before .before .before .before in
     let u = looked look in
     let at = known (found u .before) in
     let a = start at .args in
     turn-bad (ready at) (a .keys .now) (a .allowance) (is-major (found u)) (u .before .before .if1 .left) (are-minors u) _
-    (look .before .before .before .places .ensures) (look .bad-line .ensures) (c .before .bad .given .1)
+    (look .before .before .before .places .ensures) (look .bad-line .ensures) (c .before .before .bad .given .1)
+    (c .refuse2 .ensures)
 
 enum-told : tie.Need-enum-told
 enum-told c = search needs
@@ -168,6 +175,7 @@ turn-loaded-spec =
     (tie.spec
     current-requires
     major-requires
+    refuse-requires
     same-length
     same-length-2
     returns
@@ -178,6 +186,7 @@ turn-loaded-spec =
     slice-aggregate-bad-line
     bad-line-requires
     enum-known-bad
+    refuse-requires-2
     same-length-3
     same-length-4
     same-length-5

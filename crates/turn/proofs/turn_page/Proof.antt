@@ -2,9 +2,8 @@
 use mathlib.Core.Path.{_≡_, refl, ap, _∙_}
 use Prim.Native.Nat.{suc}
 use borrow.Author.Needs.{needs}
-use Rattle.answer.specs.declared.Answer.{Answer}
 use Rattle.calls.specs.Path.{loaded}
-use Rattle.calls.specs.Call.{buffers, ended}
+use Rattle.calls.specs.Call.{buffers}
 use Rattle.calls.specs.Turn.{pagePath}
 use Rattle.path.specs.Told.{refusalOf}
 use Rattle.call_laws.specs.Walk.{missing, pathCells, withPath}
@@ -59,9 +58,9 @@ returns c =
     let at = known walk in
     let a = start at .args in
     let told = c .before .enum-told .given .1 in
-    ap (λ (r : Answer). ended r (a .array .now) (a .control .now) (a .cache .now)) (c .refused .ensures ∙ ap refusalOf told)
-    ∙ turn-differs (a .keys .now) (a .p) (a .allowance) (buffers (a .array .now) (a .control .now) (a .cache .now))
+    turn-differs (a .keys .now) (a .p) (a .allowance) (buffers (a .array .now) (a .control .now) (a .cache .now))
     (walk-differs (a .keys .now) (a .p) (ready at) (start at .pre .1 .1 .0) refl (walk .before .root .ensures) (walk .walk .ensures) told)
+    (c .refused .ensures ∙ ap refusalOf told)
 
 -- the path is loaded
 loads : (c : tie.After-path)

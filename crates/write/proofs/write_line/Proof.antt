@@ -4,9 +4,8 @@ use Prim.Native.Nat.{suc}
 use native.Mathlib.Omega.{arith}
 use borrow.Author.Needs.{needs}
 use Rattle.memory_map.specs.Map.{pageOf}
-use Rattle.answer.specs.declared.Answer.{Answer}
 use Rattle.calls.specs.Path.{loaded}
-use Rattle.calls.specs.Call.{buffers, ended, pathOf}
+use Rattle.calls.specs.Call.{buffers, pathOf}
 use Rattle.path.specs.Told.{refusalOf}
 use Rattle.call_laws.specs.Walk.{missing, pathCells, withPath}
 use Rattle.path.proofs.Ready.{Ready, Found, ready-of, walk-differs, walk-loaded, minor-small}
@@ -67,11 +66,10 @@ returns c =
     let at = known walk in
     let a = start at .args in
     let told = c .before .enum-told .given .1 in
-    ap (λ (r : Answer). ended r (a .array .now) (a .control .now) (a .cache .now)) (c .refused .ensures ∙ ap refusalOf told)
-    ∙ write-differs (a .keys .now) (a .line) (a .text .now) (a .allowance) (buffers (a .array .now) (a .control .now) (a .cache .now))
+    write-differs (a .keys .now) (a .line) (a .text .now) (a .allowance) (buffers (a .array .now) (a .control .now) (a .cache .now))
     (walk-differs (a .keys .now) (pageOf (a .line)) (ready at) (start at .pre .1 .1 .0)
     (walk .before .before .before .before .before .page-of .ensures)
-    (walk .before .root .ensures) (walk .walk .ensures) told)
+    (walk .before .root .ensures) (walk .walk .ensures) told) (c .refused .ensures ∙ ap refusalOf told)
 
 -- the path is loaded
 abbrev walked : tie.After-path → tie.After-walk
@@ -104,6 +102,9 @@ found c =
     let at = known (walked (seen c)) in
     record { ready = ready at; deep = start at .pre .1 .1 .0; path = loads (seen c) .1; counter = c .line-counter .ensures }
 
+refuse-requires : tie.Need-refuse-requires
+refuse-requires c κs = search needs
+
 same-length-4 : tie.Need-same-length-4
 same-length-4 c = search needs
 
@@ -115,9 +116,9 @@ same-length-6 c = search needs
 
 returns-2 : tie.Need-returns-2
 returns-2 c =
-    let count = c .before .before in
+    let count = c .before .before .before in
     let a = start (known (walked (seen count))) .args in
-    write-full (found count) (a .text .now) (a .allowance) (c .if1 .taken)
+    write-full (found count) (a .text .now) (a .allowance) (c .before .if1 .taken) (c .refuse .ensures)
 
 abbrev count : tie.After-struct-known2 → tie.After-line-counter
 count c = c .before .before .before .before .before .before
@@ -167,6 +168,7 @@ write-line-spec =
     same-length-3
     returns
     line-counter-requires
+    refuse-requires
     same-length-4
     same-length-5
     same-length-6
