@@ -1,5 +1,5 @@
 -- What a read or a write goes on with once it is accepted, and what walking its path then tells. Assumes nothing.
-use mathlib.Core.Path.{_≡_, sym, ap, ap₂, _∙_, subst}
+use mathlib.Core.Path.{_≡_, refl, sym, ap, ap₂, _∙_, subst}
 use mathlib.Core.Bool.{true}
 use mathlib.Core.List.{List, []}
 use Prim.Native.Nat.{ℕ, suc, _*_, _≤_, _<_, zero-le}
@@ -23,8 +23,8 @@ use Rattle.call_laws.specs.Walk.{missing, pathCells, withPath}
 use Rattle.call_laws.proofs.Judged.{Opened, Accepted, head-of}
 use Rattle.call_laws.proofs.Loading.{path-content}
 use Rattle.call_laws.proofs.Loads.{Fit, path-few}
-use Rattle.path.specs.Told.{told, CounterOf}
-use Rattle.path.specs.declared.Counter.{Counter}
+use Rattle.path.specs.Told.{told, Finds}
+use Rattle.path.specs.declared.Line.{Line}
 use Rattle.path.specs.declared.Path.{Path}
 use Rattle.path.specs.declared.Path.the-variants as Path·variants
 use Rattle.path.proofs.Laws.{loaded-told, differs-told}
@@ -94,37 +94,39 @@ accepts {keys} {line} {b} {m} {h} ok deep =
 
 -- ---- what walking the path of a page tells
 
-module _ (keys : List ℕ) (q : ℕ) {h : ℕ} {a k c : List ℕ} (y : Ready h a k c q) (deep : h ≡ depth k) {p r : ℕ}
-    (page : p ≡ q) (top : r ≡ root k) {w : Path} (walk : w ≡ told (missing c p (suc h)) (loadPath h keys a r p c)) where
-  abbrev found : Loaded
-  found = loadPath h keys a (root k) q c
+module _ (keys k : List ℕ) (p : ℕ) {h : ℕ} {a c : List ℕ} (z : Sized h a c) (page : p < pages h) (deep : h ≡ depth k) {r : ℕ}
+    (top : r ≡ root k) {w : Path} (walk : w ≡ told (missing c p (suc h)) (loadPath h keys a r p c)) where
+  as-path : {l : Loaded} → loadPath h keys a r p c ≡ l → pagePath keys p (buffers a k c) ≡ l
+  as-path e = sym (ap₂ {C = Loaded} (λ (n x : ℕ). loadPath n keys a x p c) deep top) ∙ e
 
-  here : w ≡ told (missing c q (suc h)) found
-  here = walk ∙ ap₂ {C = Path} (λ (i x : ℕ). told (missing c i (suc h)) (loadPath h keys a x i c)) page top
-
-  as-path : {l : Loaded} → found ≡ l → pagePath keys q (buffers a k c) ≡ l
-  as-path e = ap (λ (n : ℕ). loadPath n keys a (root k) q c) (sym deep) ∙ e
-
-  pub walk-differs : {l i : ℕ} → w ≡ Path·variants.Differs l i → pagePath keys q (buffers a k c) ≡ differs l i
+  pub walk-differs : {l i : ℕ} → w ≡ Path·variants.Differs l i → pagePath keys p (buffers a k c) ≡ differs l i
   walk-differs {l} {i} e =
-      as-path (differs-told h (y .sized .flat) keys a (y .sized .array) (root k) q (y .page) c (y .sized .cache) (missing c q (suc h)) l i
-      (sym e ∙ here))
+      as-path (differs-told h (z .flat) keys a (z .array) r p page c (z .cache) (missing c p (suc h)) l i (sym e ∙ walk))
 
   pub walk-loaded : {j : ℕ} → w ≡ Path·variants.Loaded j
-      → (j ≡ missing c q (suc h)) × (pagePath keys q (buffers a k c) ≡ loaded (withPath h a q (suc h) c) (pathCells h c q (suc h)))
+      → (j ≡ missing c p (suc h)) × (pagePath keys p (buffers a k c) ≡ loaded (withPath h a p (suc h) c) (pathCells h c p (suc h)))
   walk-loaded {j} e =
-      let both = loaded-told h (y .sized .flat) keys a (y .sized .array) (root k) q (y .page) c (y .sized .cache) (missing c q (suc h)) j
-      (sym e ∙ here) in
+      let both = loaded-told h (z .flat) keys a (z .array) r p page c (z .cache) (missing c p (suc h)) j (sym e ∙ walk) in
       (both .0, as-path (both .1))
 
--- the path of a line is loaded, and r is its counter
-pub record Found (h : ℕ) (keys a k c : List ℕ) (line : ℕ) (r : Counter) : Type 0 where
+-- the path of a line is loaded, and r has its counter
+pub record Found (h : ℕ) (keys a k c : List ℕ) (line : ℕ) (r : Line) : Type 0 where
   pub ready : Ready h a k c (pageOf line)
   pub deep : h ≡ depth k
   pub path : pathOf keys line (buffers a k c) ≡ loaded (withPath h a (pageOf line) (suc h) c) (pathCells h c (pageOf line) (suc h))
-  pub counter : CounterOf (current h a c 0 (pageOf line)) (placeOf line) r
+  pub counter : Finds h keys a k c line r
 
-module _ {h : ℕ} {keys a k c : List ℕ} {line : ℕ} {r : Counter} (f : Found h keys a k c line r) where
+module _ {h : ℕ} {keys a k c : List ℕ} {line : ℕ} {r : Line} (y : Ready h a k c (pageOf line)) (deep : h ≡ depth k)
+    (f : Finds h keys a k c line r) where
+  pub line-differs : {l i : ℕ} → r .path ≡ Path·variants.Differs l i → pathOf keys line (buffers a k c) ≡ differs l i
+  line-differs = walk-differs keys k (pageOf line) (y .sized) (y .page) deep refl (f .walked)
+
+  pub line-found : {j : ℕ} → r .path ≡ Path·variants.Loaded j → (j ≡ missing c (pageOf line) (suc h)) × Found h keys a k c line r
+  line-found e =
+      let both = walk-loaded keys k (pageOf line) (y .sized) (y .page) deep refl (f .walked) e in
+      (both .0, record { ready = y; deep = deep; path = both .1; counter = f })
+
+module _ {h : ℕ} {keys a k c : List ℕ} {line : ℕ} {r : Line} (f : Found h keys a k c line r) where
   abbrev d : List ℕ
   d = withPath h a (pageOf line) (suc h) c
 

@@ -3,14 +3,15 @@ ghost use mathlib.Core.Path.{_≡_};
 ghost use Prim.Native.Nat.{suc, _<_, _≤_};
 ghost use lib.ListN.{length};
 ghost use lib.Dec.{eqb};
-ghost use Rattle.memory_map.specs.Map.{pages, pageOf, placeOf, onPath, cellOf, lines as linesOf};
+ghost use Rattle.memory_map.specs.Map.{pages, onPath, cellOf, lines as linesOf};
 ghost use Rattle.memory_map.specs.Map.Item.{node};
 ghost use Rattle.tag.specs.Tag.{nodeTag};
-ghost use Rattle.cache.specs.Cache.{cellContent, current};
+ghost use Rattle.control.specs.Control.{controlLength};
+ghost use Rattle.cache.specs.Cache.{cellContent};
 ghost use Rattle.node.specs.Sized.{Sized};
 ghost use Rattle.calls.specs.Path.{loadPath};
 ghost use Rattle.call_laws.specs.Walk.{missing as missingNodes, expectedTag};
-ghost use Rattle.path.specs.Told.{told, refusalOf, CounterOf};
+ghost use Rattle.path.specs.Told.{told, refusalOf, Finds};
 use answer::Answer;
 use answer::refuse;
 use memory_map::on_path;
@@ -93,19 +94,31 @@ pub fn refused(path: Path) -> Answer
     }
 }
 
-// The counter of a line.
-pub struct Counter {
+// The path of a line, and the line's counter in the block of its page, where that is.
+pub struct Line {
+    pub path: Path,
     pub major: u64,
     pub minor: u64,
 }
 
-// Reads a line's counter in the block of its page, where that is.
-pub fn line_counter<'a>(h: usize, array: &'a [u8], cache: &'a [u8], line: usize) -> Counter
-    requires { ⌜ Sized h (now array) (now cache) × (line < linesOf h) ⌝ }
-    ensures { λ r. ⌜ CounterOf (current h (now (array .entry)) (now (cache .entry)) 0 (pageOf line)) (placeOf line) r ⌝ }
+// Walks the path of a line, and reads its counter.
+pub fn find_line<'a>(
+    h: usize,
+    keys: &[u8],
+    control: &[u8],
+    array: &'a [u8],
+    cache: &'a [u8],
+    line: usize,
+) -> Line
+    requires { ⌜ (length (now keys) ≡ 48) × ((length (now control) ≡ controlLength) × (Sized h (now array) (now cache)
+        × (line < linesOf h))) ⌝ }
+    ensures { λ r. ⌜ Finds h (now (keys .entry)) (now (array .entry)) (now (control .entry)) (now (cache .entry)) line r ⌝ }
 {
-    let block = node::current(h, array, cache, 0, memory_map::page_of(line));
-    Counter {
+    let p = memory_map::page_of(line);
+    let path = walk(h, keys, array, cache, control::root(control), p);
+    let block = node::current(h, array, cache, 0, p);
+    Line {
+        path,
         major: counter::major(block),
         minor: counter::minor(block, memory_map::place_of(line)),
     }

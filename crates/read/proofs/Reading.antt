@@ -22,15 +22,15 @@ use Rattle.calls.specs.Read.{readLoaded, readPath, readJudged, read}
 use Rattle.call_laws.specs.Walk.{pathStores, withPath}
 use Rattle.call_laws.proofs.Apart.{line-content}
 use Rattle.call_laws.proofs.Storing.{storing-array, settled, broken}
-use Rattle.path.specs.declared.Counter.{Counter}
+use Rattle.path.specs.declared.Line.{Line}
 use Rattle.path.proofs.Ready.{Found, fit, major-found, minor-found}
 
 -- whether a line's side bytes are those of a counter, and its text at that counter
-abbrev pub sideIs : List ℕ → List ℕ → ℕ → Counter → Bool
+abbrev pub sideIs : List ℕ → List ℕ → ℕ → Line → Bool
 sideIs keys a line n =
     eqb (fromLe (part a (72 * line + 64) 8)) (fromLe (sideBytes keys (cellContent a line) line (n .major) (n .minor)))
 
-abbrev plain : List ℕ → List ℕ → ℕ → Counter → List ℕ
+abbrev plain : List ℕ → List ℕ → ℕ → Line → List ℕ
 plain keys a line n = xorBytes (cellContent a line) (pad keys line (n .major) (n .minor))
 
 pub read-differs : (keys : List ℕ) (line allowance : ℕ) (out : List ℕ) (m : Module) {l i : ℕ} → pathOf keys line m ≡ differs l i
@@ -40,7 +40,7 @@ unfolding readPath
 read-differs keys line allowance out m e f = rw f (sym (ap (readPath keys line allowance m out) e))
 
 -- the path is loaded, and n is the line's counter
-module _ {h : ℕ} {keys a k c : List ℕ} {line : ℕ} {n : Counter} (found : Found h keys a k c line n) (allowance : ℕ) (out : List ℕ) where
+module _ {h : ℕ} {keys a k c : List ℕ} {line : ℕ} {n : Line} (found : Found h keys a k c line n) (allowance : ℕ) (out : List ℕ) where
   abbrev m : Module
   m = buffers a k c
 

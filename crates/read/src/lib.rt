@@ -30,22 +30,22 @@ fn read_line(
         ≡ readPath (now (keys .entry)) line allowance (buffers (now (array .entry)) (now (control .entry)) (now (cache .entry)))
         (now (out .entry)) (pathOf (now (keys .entry)) line (buffers (now (array .entry)) (now (control .entry)) (now (cache .entry)))) ⌝ }
 {
-    let p = memory_map::page_of(line);
-    let path = path::walk(h, keys, array, cache, control::root(control), p);
+    let found = path::find_line(h, keys, control, array, cache, line);
+    let path = found.path;
     let Path::Loaded { missing } = path else {
         return path::refused(path);
     };
-    let counter = path::line_counter(h, array, cache, line);
-    if counter.minor != 0 {
-        if !line_text::side_ok(keys, array, line, counter.major, counter.minor) {
+    if found.minor != 0 {
+        if !line_text::side_ok(keys, array, line, found.major, found.minor) {
             return refuse(25, line as u64, 0);
         }
     }
+    let p = memory_map::page_of(line);
     let ended = loading::settle(h, control, array, cache, p, missing, allowance);
     let Answer::Done { stores, sum: _ } = ended else {
         return ended;
     };
-    line_text::give(keys, array, line, counter.major, counter.minor, stores, out)
+    line_text::give(keys, array, line, found.major, found.minor, stores, out)
 }
 
 // Reads a line into out: done and its text, or blank.

@@ -21,7 +21,7 @@ use Rattle.calls.specs.Write.{newMinor, newBlock, stopLoss, lineCell, dataCell,
 use Rattle.calls.specs.Write.{writtenCache, writeLoaded, writePath, writeJudged, write}
 use Rattle.call_laws.specs.Line.{blockCells, lineCells}
 use Rattle.call_laws.specs.Walk.{pathCells, withPath}
-use Rattle.path.specs.declared.Counter.{Counter}
+use Rattle.path.specs.declared.Line.{Line}
 use Rattle.path.proofs.Ready.{Found, block-found, major-found, minor-found}
 use Rattle.line_store.specs.Stored.{storedLine}
 
@@ -32,7 +32,7 @@ unfolding writePath
 write-differs keys line text allowance m e f = rw f (sym (ap (writePath keys line text allowance m) e))
 
 -- the path is loaded, and n is the line's counter
-module _ {h : ℕ} {keys a k c : List ℕ} {line : ℕ} {n : Counter} (found : Found h keys a k c line n) (text : List ℕ) (allowance : ℕ) where
+module _ {h : ℕ} {keys a k c : List ℕ} {line : ℕ} {n : Line} (found : Found h keys a k c line n) (text : List ℕ) (allowance : ℕ) where
   abbrev m : Module
   m = buffers a k c
 

@@ -75,13 +75,12 @@ fn write_line(
         (buffers (now (array .entry)) (now (control .entry)) (now (cache .entry)))
         (pathOf (now (keys .entry)) line (buffers (now (array .entry)) (now (control .entry)) (now (cache .entry)))) ⌝ }
 {
-    let p = memory_map::page_of(line);
-    let path = path::walk(h, keys, array, cache, control::root(control), p);
+    let found = path::find_line(h, keys, control, array, cache, line);
+    let path = found.path;
     let Path::Loaded { missing } = path else {
         return path::refused(path);
     };
-    let counter = path::line_counter(h, array, cache, line);
-    if counter.minor == 127 {
+    if found.minor == 127 {
         return refuse(26, 0, 0);
     }
     raise(
@@ -92,8 +91,8 @@ fn write_line(
         cache,
         line,
         text,
-        counter.major,
-        counter.minor + 1,
+        found.major,
+        found.minor + 1,
         missing,
         allowance,
     )

@@ -12,21 +12,14 @@ use Rattle.memory_map.proofs.Laws.{lines-small}
 use Rattle.answer.specs.declared.Answer.the-variants.{Done}
 use Rattle.control.specs.Control.{root}
 use Rattle.node.proofs.Laws.{line-room}
-use Rattle.calls.specs.Path.{loaded}
-use Rattle.calls.specs.Call.{buffers, ended, storing, pathOf}
+use Rattle.calls.specs.Call.{buffers, ended, storing}
 use Rattle.path.specs.Told.{refusalOf}
-use Rattle.call_laws.specs.Walk.{missing, pathCells, pathStores, withPath}
-use Rattle.path.proofs.Ready.{Ready, Found, ready-of, walk-differs, walk-loaded, minor-small}
+use Rattle.call_laws.specs.Walk.{missing, pathStores, withPath}
+use Rattle.path.proofs.Ready.{Ready, Found, ready-of, line-differs, line-found, minor-small}
 use Rattle.read.proofs.Laws.{not-done}
 use Rattle.read.proofs.Reading.{sideIs, read-differs, read-side, read-cut, read-done}
 use Rattle.read.proofs.read_line.Statement.{statement}
 use Rattle.read.proofs.read_line.Tie as tie
-
-page-of-requires : tie.Need-page-of-requires
-page-of-requires c κs = search needs
-
-root-requires : tie.Need-root-requires
-root-requires c κs = search needs
 
 -- past the entry: what is lent
 abbrev start : tie.After-slice-known4 → tie.Start
@@ -40,15 +33,16 @@ ready c =
     (record { at = λ i. c .before .before .before .slice-known .given i .fits })
     (record { at = λ i. c .before .slice-known3 .given i .fits })
 
-walk-requires : tie.Need-walk-requires
-walk-requires c κs =
-    let page = c .before .before .before .before in
-    let y = ready (page .before) in
-    (start (page .before) .pre .0, (y .sized, omega (arith, page .page-of .ensures, y .page)))
+room : (c : tie.After-slice-known4) → 72 * start c .args .line + 72 ≤ length (start c .args .array .now)
+room c =
+    let s = start c in line-room (s .args .h) (s .args .array .now) (s .args .line) (s .pre .1 .1 .1 .0 .array) (s .pre .1 .1 .1 .1 .1 .0)
 
--- what walking the path tells
-abbrev known : tie.After-walk → tie.After-slice-known4
-known c = c .before .before .before .before .before .before
+find-line-requires : tie.Need-find-line-requires
+find-line-requires c κs = search needs
+
+-- what is found of the line
+abbrev known : tie.After-find-line → tie.After-slice-known4
+known c = c .before .before .before .before
 
 enum-known-path : tie.Need-enum-known-path
 enum-known-path c = search needs
@@ -71,54 +65,30 @@ same-length-3 c = search needs
 returns : tie.Need-returns
 unfolding refusalOf
 returns c =
-    let walk = c .before .before .before in
-    let at = known walk in
+    let call = c .before .before .before in
+    let at = known call in
     let a = start at .args in
     let told = c .before .enum-told .given .1 in
     read-differs (a .keys .now) (a .line) (a .allowance) (a .out .now) (buffers (a .array .now) (a .control .now) (a .cache .now))
-    (walk-differs (a .keys .now) (pageOf (a .line)) (ready at) (start at .pre .1 .1 .0)
-    (walk .before .before .before .before .before .page-of .ensures)
-    (walk .before .root .ensures) (walk .walk .ensures) told) (c .refused .ensures ∙ ap refusalOf told)
+    (line-differs (ready at) (start at .pre .1 .1 .0) (call .find-line .ensures) told) (c .refused .ensures ∙ ap refusalOf told)
 
--- the path is loaded
-abbrev walked : tie.After-path → tie.After-walk
-walked c = c .before .before
+-- its path is loaded
+abbrev entered : tie.After-path → tie.After-slice-known4
+entered c = known (c .before .before)
 
 loads : (c : tie.After-path)
-    → let a = start (known (walked c)) .args in let p = pageOf (a .line) in
-    (c .path .given .0 .0 ≡ missing (a .cache .now) p (suc (a .h)))
-    × (pathOf (a .keys .now) (a .line) (buffers (a .array .now) (a .control .now) (a .cache .now))
-    ≡ loaded (withPath (a .h) (a .array .now) p (suc (a .h)) (a .cache .now)) (pathCells (a .h) (a .cache .now) p (suc (a .h))))
+    → let a = start (entered c) .args in
+    (c .path .given .0 .0 ≡ missing (a .cache .now) (pageOf (a .line)) (suc (a .h)))
+    × Found (a .h) (a .keys .now) (a .array .now) (a .control .now) (a .cache .now) (a .line) (c .before .before .find-line .result)
 loads c =
-    let walk = walked c in
-    let at = known walk in
-    let a = start at .args in
-    walk-loaded (a .keys .now) (pageOf (a .line)) (ready at) (start at .pre .1 .1 .0)
-    (walk .before .before .before .before .before .page-of .ensures)
-    (walk .before .root .ensures) (walk .walk .ensures) (c .path .given .1)
+    let at = entered c in
+    line-found (ready at) (start at .pre .1 .1 .0) (c .before .before .find-line .ensures) (c .path .given .1)
 
-line-counter-requires : tie.Need-line-counter-requires
-line-counter-requires c κs = search needs
-
-room : (c : tie.After-slice-known4) → 72 * start c .args .line + 72 ≤ length (start c .args .array .now)
-room c =
-    let s = start c in line-room (s .args .h) (s .args .array .now) (s .args .line) (s .pre .1 .1 .1 .0 .array) (s .pre .1 .1 .1 .1 .1 .0)
-
--- and the counter found
-abbrev seen : tie.After-line-counter → tie.After-path
-seen c = c .before .before .before .before
-
-found : (c : tie.After-line-counter)
-    → let a = start (known (walked (seen c))) .args in
-    Found (a .h) (a .keys .now) (a .array .now) (a .control .now) (a .cache .now) (a .line) (c .line-counter .result)
-found c =
-    let at = known (walked (seen c)) in
-    record { ready = ready at; deep = start at .pre .1 .1 .0; path = loads (seen c) .1; counter = c .line-counter .ensures }
+abbrev seen : tie.After-struct-known → tie.After-path
+seen c = c .before .before
 
 side-ok-requires : tie.Need-side-ok-requires
-side-ok-requires c κs =
-    let at = known (walked (c .before .before .before .before .before .before .before)) in
-    (start at .pre .0, room at)
+side-ok-requires c κs = let at = entered (seen (c .before .before)) in (start at .pre .0, room at)
 
 refuse-requires : tie.Need-refuse-requires
 refuse-requires c κs = search needs
@@ -135,24 +105,26 @@ same-length-6 c = search needs
 returns-2 : tie.Need-returns-2
 returns-2 c =
     let side = c .before .before in
-    let count = side .before .before .before .before in
-    let a = start (known (walked (seen count))) .args in
-    read-side (found count) (a .allowance) (a .out .now) (side .before .before .if1 .taken)
+    let path = seen (side .before .before .before) in
+    let a = start (entered path) .args in
+    read-side (loads path .1) (a .allowance) (a .out .now) (side .before .before .if1 .taken)
     (sym (side .side-ok .ensures) ∙ not-true (side .side-ok .result) (c .before .if2 .taken)) (c .refuse .ensures)
 
 -- its side bytes are right, or it was never written
 passes : (c : tie.Joined1)
-    → let count = c .before .before in let a = start (known (walked (seen count))) .args in
-    (count .line-counter .result .minor ≡ 0) ⊎ (sideIs (a .keys .now) (a .array .now) (a .line) (count .line-counter .result) ≡ true)
+    → let path = seen (c .before) in let a = start (entered path) .args in let r = path .before .before .find-line .result in
+    (r .minor ≡ 0) ⊎ (sideIs (a .keys .now) (a .array .now) (a .line) r ≡ true)
 passes c = ⊎-elim (λ w. inr (sym (w .2 .ensures) ∙ not-false (w .2 .result) (w .3 .left))) (λ w. inl (w .left)) (c .if1 .came)
+
+page-of-requires : tie.Need-page-of-requires
+page-of-requires c κs = search needs
 
 settle-requires : tie.Need-settle-requires
 settle-requires c κs =
-    let path = seen (c .before .before .before .before .before) in
-    let walk = walked path in
-    let at = known walk in
-    let y = ready at in
-    let page = walk .before .before .before .before .before in (
+    let page = c .before .before .before in
+    let path = seen (page .before .before) in
+    let a = start (entered path) .args in
+    let y = ready (entered path) in (
       y .control,
       (
         y .sized,
@@ -160,29 +132,31 @@ settle-requires c κs =
           y .shaped,
           (
             omega (arith, page .page-of .ensures, y .page),
-            loads path .0 ∙ ap (λ (p : ℕ). missing (start at .args .cache .now) p (suc (start at .args .h))) (sym (page .page-of .ensures)),
+            loads path .0 ∙ ap (λ (p : ℕ). missing (a .cache .now) p (suc (a .h))) (sym (page .page-of .ensures)),
           ),
         ),
       ),
     )
 
 -- what the stores of the path leave, on the line's page
+abbrev passed : tie.After-settle → tie.Joined1
+passed c = c .before .before .before .before .before
+
 settled-on : (c : tie.After-settle)
-    → let path = seen (c .before .before .before .before .before .before) in let a = start (known (walked path)) .args in
+    → let a = start (entered (seen (passed c .before))) .args in
     ended (c .settle .result) (c .settle .last .1 .1 .0) (c .settle .last .1 .0) (c .settle .last .1 .1 .1 .0)
     ≡ storing (a .allowance) (buffers (a .array .now) (a .control .now) (a .cache .now))
     (pathStores (a .h) (a .cache .now) (pageOf (a .line)) (root (a .control .now)))
     (Done (length (pathStores (a .h) (a .cache .now) (pageOf (a .line)) (root (a .control .now)))) 0)
     (withPath (a .h) (a .array .now) (pageOf (a .line)) (suc (a .h)) (a .cache .now))
 settled-on c =
-    let walk = walked (seen (c .before .before .before .before .before .before)) in
-    let a = start (known walk) .args in
+    let a = start (entered (seen (passed c .before))) .args in
     c .settle .ensures
     ∙ ap (λ (p : ℕ). storing (a .allowance) (buffers (a .array .now) (a .control .now) (a .cache .now))
     (pathStores (a .h) (a .cache .now) p (root (a .control .now)))
     (Done (length (pathStores (a .h) (a .cache .now) p (root (a .control .now)))) 0)
     (withPath (a .h) (a .array .now) p (suc (a .h)) (a .cache .now)))
-    (walk .before .before .before .before .before .page-of .ensures)
+    (c .before .before .before .before .page-of .ensures)
 
 enum-known-ended : tie.Need-enum-known-ended
 enum-known-ended c = search needs
@@ -199,26 +173,23 @@ same-length-9 c = search needs
 returns-3 : tie.Need-returns-3
 returns-3 c =
     let call = c .before .before .before .before .before .before .before in
-    let count = call .before .before .before .before .before .before in
-    let a = start (known (walked (seen count))) .args in
-    read-cut (found count) (a .allowance) (a .out .now) (passes (call .before .before .before .before)) (settled-on call)
+    let path = seen (passed call .before) in
+    let a = start (entered path) .args in
+    read-cut (loads path .1) (a .allowance) (a .out .now) (passes (passed call)) (settled-on call)
     (not-done (call .settle .result) (c .match2 .keys2) _ _)
 
 give-requires : tie.Need-give-requires
 give-requires c κs =
     let call = c .before .before .before .before .before .before .before .before .before .before .before in
-    let count = call .before .before .before .before .before .before in
-    let at = known (walked (seen count)) in
+    let path = seen (passed call .before) in
+    let at = entered path in
     let s = start at in (
       s .pre .0,
       (
         omega (arith, room at, call .settle .kept .1 .1 .0),
         (
           omega (arith, s .pre .1 .1 .1 .1 .1 .0, lines-small {h = s .args .h} refl (s .pre .1 .1 .1 .0 .flat)),
-          (
-            minor-small (found count),
-            s .pre .1 .1 .1 .1 .1 .1,
-          ),
+          (minor-small (loads path .1), s .pre .1 .1 .1 .1 .1 .1),
         ),
       ),
     )
@@ -238,20 +209,18 @@ same-length-13 c = search needs
 returns-4 : tie.Need-returns-4
 returns-4 c =
     let gave = c .before .before in
-    let told = gave .before .before .before .before in
-    let call = told .before .before .before .before .before .before .before .before in
-    let count = call .before .before .before .before .before .before in
-    let s = start (known (walked (seen count))) in
-    read-done (found count) (s .args .allowance) (s .args .out .now) (passes (call .before .before .before .before)) (settled-on call)
-    (told .ended .given .1) (s .pre .1 .1 .1 .1 .1 .0) (gave .give .ensures .0) (gave .give .ensures .1)
+    let done = gave .before .before .before .before in
+    let call = done .before .before .before .before .before .before .before .before in
+    let path = seen (passed call .before) in
+    let s = start (entered path) in
+    read-done (loads path .1) (s .args .allowance) (s .args .out .now) (passes (passed call)) (settled-on call)
+    (done .ended .given .1) (s .pre .1 .1 .1 .1 .1 .0) (gave .give .ensures .0) (gave .give .ensures .1)
 
 pub read-line-spec : {M : Type 1} → statement M
 read-line-spec =
     tie.close
     (tie.spec
-    page-of-requires
-    root-requires
-    walk-requires
+    find-line-requires
     enum-known-path
     enum-told
     refused-requires
@@ -259,13 +228,13 @@ read-line-spec =
     same-length-2
     same-length-3
     returns
-    line-counter-requires
     side-ok-requires
     refuse-requires
     same-length-4
     same-length-5
     same-length-6
     returns-2
+    page-of-requires
     settle-requires
     enum-known-ended
     same-length-7

@@ -1,5 +1,5 @@
 -- `turn::turn_page` meets its contract. Assumes nothing.
-use mathlib.Core.Path.{_≡_, refl, ap, _∙_}
+use mathlib.Core.Path.{_≡_, ap, _∙_}
 use Prim.Native.Nat.{suc}
 use borrow.Author.Needs.{needs}
 use Rattle.calls.specs.Path.{loaded}
@@ -7,8 +7,8 @@ use Rattle.calls.specs.Call.{buffers}
 use Rattle.calls.specs.Turn.{pagePath}
 use Rattle.path.specs.Told.{refusalOf}
 use Rattle.call_laws.specs.Walk.{missing, pathCells, withPath}
-use Rattle.path.proofs.Ready.{Ready, walk-differs, walk-loaded}
-use Rattle.turn.proofs.Turning.{page-ready, turn-differs, turn-loads}
+use Rattle.path.proofs.Ready.{walk-differs, walk-loaded}
+use Rattle.turn.proofs.Turning.{turn-differs, turn-loads}
 use Rattle.turn.proofs.turn_page.Statement.{statement}
 use Rattle.turn.proofs.turn_page.Tie as tie
 
@@ -18,20 +18,9 @@ root-requires c κs = search needs
 walk-requires : tie.Need-walk-requires
 walk-requires c κs = search needs
 
--- past the entry: what is lent
-abbrev start : tie.After-slice-known3 → tie.Start
-start c = c .before .before .before .before
-
-ready : (c : tie.After-slice-known3)
-    → let a = start c .args in Ready (a .h) (a .array .now) (a .control .now) (a .cache .now) (a .p)
-ready c =
-    let s = start c in
-    page-ready (s .args .keys .now) (s .pre) (record { at = λ i. c .before .slice-known2 .given i .fits })
-    (record { at = λ i. c .before .before .slice-known .given i .fits }) (record { at = λ i. c .slice-known3 .given i .fits })
-
 -- what walking the path tells
-abbrev known : tie.After-walk → tie.After-slice-known3
-known c = c .before .before .before .before .before
+abbrev start : tie.After-walk → tie.Start
+start c = c .before .before .before .before .before .before .before .before .before
 
 enum-known-path : tie.Need-enum-known-path
 enum-known-path c = search needs
@@ -55,30 +44,31 @@ returns : tie.Need-returns
 unfolding refusalOf
 returns c =
     let walk = c .before .before .before in
-    let at = known walk in
-    let a = start at .args in
+    let s = start walk in
+    let a = s .args in
     let told = c .before .enum-told .given .1 in
     turn-differs (a .keys .now) (a .p) (a .allowance) (buffers (a .array .now) (a .control .now) (a .cache .now))
-    (walk-differs (a .keys .now) (a .p) (ready at) (start at .pre .1 .1 .0) refl (walk .before .root .ensures) (walk .walk .ensures) told)
+    (walk-differs (a .keys .now) (a .control .now) (a .p) (s .pre .1 .1 .1 .0) (s .pre .1 .1 .1 .1 .1) (s .pre .1 .1 .0)
+    (walk .before .root .ensures) (walk .walk .ensures) told)
     (c .refused .ensures ∙ ap refusalOf told)
 
 -- the path is loaded
 loads : (c : tie.After-path)
-    → let a = start (known (c .before .before)) .args in
+    → let a = start (c .before .before) .args in
     (c .path .given .0 .0 ≡ missing (a .cache .now) (a .p) (suc (a .h)))
     × (pagePath (a .keys .now) (a .p) (buffers (a .array .now) (a .control .now) (a .cache .now))
     ≡ loaded (withPath (a .h) (a .array .now) (a .p) (suc (a .h)) (a .cache .now)) (pathCells (a .h) (a .cache .now) (a .p) (suc (a .h))))
 loads c =
     let walk = c .before .before in
-    let at = known walk in
-    let a = start at .args in
-    walk-loaded (a .keys .now) (a .p) (ready at) (start at .pre .1 .1 .0) refl (walk .before .root .ensures) (walk .walk .ensures)
-    (c .path .given .1)
+    let s = start walk in
+    let a = s .args in
+    walk-loaded (a .keys .now) (a .control .now) (a .p) (s .pre .1 .1 .1 .0) (s .pre .1 .1 .1 .1 .1) (s .pre .1 .1 .0)
+    (walk .before .root .ensures) (walk .walk .ensures) (c .path .given .1)
 
 turn-loaded-requires : tie.Need-turn-loaded-requires
 turn-loaded-requires c κs =
     let path = c .before .before .before .before in
-    (start (known (path .before .before)) .pre, loads path .0)
+    (start (path .before .before) .pre, loads path .0)
 
 same-length-4 : tie.Need-same-length-4
 same-length-4 c = search needs
@@ -93,7 +83,7 @@ returns-2 : tie.Need-returns-2
 returns-2 c =
     let call = c .before .before .before .before .before .before in
     let path = call .before .before .before .before .before in
-    let a = start (known (path .before .before)) .args in
+    let a = start (path .before .before) .args in
     call .turn-loaded .ensures
     ∙ turn-loads (a .keys .now) (a .p) (a .allowance) (buffers (a .array .now) (a .control .now) (a .cache .now)) (loads path .1)
 
