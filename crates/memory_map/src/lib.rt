@@ -2,7 +2,6 @@
 ghost use mathlib.Core.Path.{_≡_};
 ghost use Prim.Native.Nat.{_+_, _%_, _≤_};
 ghost use Rattle.memory_map.specs.Map.{
-  line,
   node,
   shadow,
   cellOf,
@@ -90,12 +89,6 @@ pub fn shadow_cells(h: usize) -> usize
     ensures { λ r. ⌜ r ≡ shadowCells h ⌝ }
 {
     slots(h)
-}
-
-pub fn line_cell(h: usize, n: usize) -> usize
-    ensures { λ r. ⌜ r ≡ cellOf h (line n) ⌝ }
-{
-    n
 }
 
 pub fn node_cell(h: usize, l: usize, i: usize) -> usize

@@ -1,10 +1,7 @@
 // The parser of the bench program's commands: it takes a line byte by byte.
 ghost use mathlib.Core.Path.{_≡_};
-ghost use Rattle.commands.specs.Language.{commandOf};
 ghost use Rattle.commands.specs.Machine.{afterByte, secondPart, afterSpace, next};
-use commands::Command;
 use commands::Parser;
-use commands::finish;
 use decimal::Number;
 use decimal::with_digit;
 
@@ -73,19 +70,4 @@ pub fn step(parser: Parser, b: u8) -> Parser
     } else {
         after_byte(parser, b)
     }
-}
-
-// The command of a whole line, without its newline.
-pub fn parse(line: &[u8]) -> Command
-    ensures { λ r. ⌜ r ≡ commandOf (now (line .entry)) ⌝ }
-{
-    let mut parser = Parser::Start;
-    let mut i = 0;
-    while i < line.len() {
-        let b = line[i];
-        let after = step(parser, b);
-        parser = after;
-        i += 1;
-    }
-    finish(parser)
 }
