@@ -97,7 +97,7 @@ struct Taken {
     ended: bool,
 }
 
-fn turn(
+fn read_input(
     keys: &[u8],
     control: &mut [u8],
     array: &mut [u8],
@@ -117,7 +117,7 @@ fn turn(
     }
 }
 
-// Takes the input to its end. A proved loop has to end, so it counts its turns down, from a number that no run uses up.
+// Takes the input to its end. A proved loop has to end, so it counts its reads down, from a number that no run uses up.
 fn serve(keys: &[u8], control: &mut [u8], array: &mut [u8], cache: &mut [u8])
     ensures { λ _. ⌜ Served (now (keys .entry)) (buffers (now (array .entry)) (now (control .entry)) (now (cache .entry)))
         (buffers (now (array .exit)) (now (control .exit)) (now (cache .exit))) ⌝ }
@@ -126,14 +126,14 @@ fn serve(keys: &[u8], control: &mut [u8], array: &mut [u8], cache: &mut [u8])
         parser: Parser::Start,
         allowance: u64::MAX,
     };
-    let mut turns = u64::MAX;
-    while turns > 0 {
-        let taken = turn(keys, control, array, cache, session);
+    let mut reads = u64::MAX;
+    while reads > 0 {
+        let taken = read_input(keys, control, array, cache, session);
         let after = taken.session;
         session = after;
-        turns -= 1;
+        reads -= 1;
         if taken.ended {
-            turns = 0;
+            reads = 0;
         }
     }
     let parser = session.parser;

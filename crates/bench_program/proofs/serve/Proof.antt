@@ -7,22 +7,22 @@ use Rattle.bench_program.proofs.serve.Statement.{statement}
 use Rattle.bench_program.proofs.serve.Tie as tie
 
 abbrev Inv-loop : tie.InvT-loop
-Inv-loop keys control₀ array₀ cache₀ session₀ turns₀ control array cache session turns =
+Inv-loop keys control₀ array₀ cache₀ session₀ reads₀ control array cache session reads =
     Going keys array₀ control₀ cache₀ (session .parser) (session .allowance) array control cache
 
 abbrev μ-loop : tie.MeasureT-loop
-μ-loop keys control₀ array₀ cache₀ session₀ turns₀ control array cache session turns = turns
+μ-loop keys control₀ array₀ cache₀ session₀ reads₀ control array cache session reads = reads
 
 loop-holds : tie.Need-loop-holds Inv-loop μ-loop
 loop-holds c =
     let a = c .before .before .before .before .args in
     going-first (a .keys .now) (a .array .now) (a .control .now) (a .cache .now)
 
-turn-requires : tie.Need-turn-requires Inv-loop μ-loop
-turn-requires c κs = search needs
+read-input-requires : tie.Need-read-input-requires Inv-loop μ-loop
+read-input-requires c κs = search needs
 
-sub-turns : tie.Need-sub-turns Inv-loop μ-loop
-sub-turns c = omega arith
+sub-reads : tie.Need-sub-reads Inv-loop μ-loop
+sub-reads c = omega arith
 
 loop-less : tie.Need-loop-less Inv-loop μ-loop
 loop-less c = omega arith
@@ -30,8 +30,8 @@ loop-less c = omega arith
 loop-again : tie.Need-loop-again Inv-loop μ-loop
 loop-again c =
     let call = c .before .before .before .before .before .before .before .before in
-    going-on (call .before .before .before .before .before .loop .inv) (call .turn .ensures)
-    (call .turn .kept .1 .1 .0) (call .turn .kept .1 .0) (call .turn .kept .1 .1 .1 .0)
+    going-on (call .before .before .before .before .before .loop .inv) (call .read-input .ensures)
+    (call .read-input .kept .1 .1 .0) (call .read-input .kept .1 .0) (call .read-input .kept .1 .1 .1 .0)
 
 loop-less-2 : tie.Need-loop-less-2 Inv-loop μ-loop
 loop-less-2 c = omega arith
@@ -39,8 +39,8 @@ loop-less-2 c = omega arith
 loop-again-2 : tie.Need-loop-again-2 Inv-loop μ-loop
 loop-again-2 c =
     let call = c .before .before .before .before .before .before .before .before in
-    going-on (call .before .before .before .before .before .loop .inv) (call .turn .ensures)
-    (call .turn .kept .1 .1 .0) (call .turn .kept .1 .0) (call .turn .kept .1 .1 .1 .0)
+    going-on (call .before .before .before .before .before .loop .inv) (call .read-input .ensures)
+    (call .read-input .kept .1 .1 .0) (call .read-input .kept .1 .0) (call .read-input .kept .1 .1 .1 .0)
 
 has-line-requires : tie.Need-has-line-requires Inv-loop μ-loop
 has-line-requires c κs = search needs
@@ -89,8 +89,8 @@ serve-spec =
     Inv-loop
     μ-loop
     loop-holds
-    turn-requires
-    sub-turns
+    read-input-requires
+    sub-reads
     loop-less
     loop-again
     loop-less-2
