@@ -53,6 +53,15 @@ level-ones h (suc l) p q = omega (arith, level-ones h l p (omega arith), ones-ne
 pub ones-small : (k : ℕ) → ones k ≤ 585
 ones-small k = div-le-self 585 (2 ^ k)
 
+pub ones-fit : (x k j : ℕ) → ones (k + j) ≤ x + ones k
+ones-fit x k j =
+    omega (
+      arith,
+      ap (λ (n : ℕ). 585 / n) (pow-add 2 k j),
+      div-div-eq-div-mul 585 (2 ^ k) (2 ^ j),
+      div-le-self (585 / 2 ^ k) (2 ^ j),
+    )
+
 pub lines-small : {r h : ℕ} → r ≡ lines h → h ≤ 3 → r ≤ 32768
 unfolding lines pages
 lines-small {r} {h} e p = omega (arith, upTo3 (λ n. 64 * 8 ^ n ≤ 32768) (omega arith) (omega arith) (omega arith) (omega arith) h p)

@@ -2,7 +2,7 @@
 use Prim.Native.Nat.{_*_, _-_}
 use borrow.Author.Needs.{needs}
 use native.Mathlib.Omega.{arith}
-use Rattle.memory_map.proofs.Laws.{ones-small, lines-small, level-ones}
+use Rattle.memory_map.proofs.Laws.{ones-small, ones-fit, lines-small, level-ones}
 use Rattle.memory_map.proofs.level_start.Statement.{statement}
 use Rattle.memory_map.proofs.level_start.Tie as tie
 
@@ -19,7 +19,9 @@ shr-result : tie.Need-shr-result
 shr-result c = search needs
 
 add-result : tie.Need-add-result
-add-result c = let a = c .before .args in omega (arith, ones-small (9 - 3 * a .h), lines-small (c .lines .ensures) (c .before .pre .1 .0))
+add-result c =
+    let a = c .before .args in
+    omega (arith, ones-small (9 - 3 * a .h), lines-small (c .lines .ensures) (omega (arith, c .before .pre .1 .0)))
 
 mul-result-2 : tie.Need-mul-result-2
 mul-result-2 c = search needs
@@ -37,9 +39,7 @@ shr-result-2 : tie.Need-shr-result-2
 shr-result-2 c = search needs
 
 sub-result-3 : tie.Need-sub-result-3
-sub-result-3 c =
-    let a = c .before .args in
-    omega (arith, level-ones (a .h) (a .l) (c .before .pre .1 .0) (c .before .pre .1 .1), c .lines .ensures)
+sub-result-3 c = ones-fit _ _ _
 
 returns : tie.Need-returns
 returns c =
