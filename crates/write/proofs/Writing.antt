@@ -91,8 +91,9 @@ module _ {h : ℕ} {keys a k c : List ℕ} {line : ℕ} {n : Line} (found : Foun
   pub write-full : n .minor ≡ 127 → {r : Answer} → r ≡ Refused 26 0 0 0 → ended r a k c ≡ whole
   write-full e f = rw f (sym (by-minor true (eq-eqb (n .minor) 127 e)))
 
-  pub write-stored : (n .minor ≡ 127 → ⊥) → storedLine h keys line text (n .major) (n .minor + 1) next allowance m ≡ whole
-  write-stored e = sym (by-minor false (ne-eqb (n .minor) 127 e))
+  pub write-stored : (n .minor ≡ 127 → ⊥) → {x : Called} → x ≡ storedLine h keys line text (n .major) (n .minor + 1) next allowance m
+      → x ≡ whole
+  write-stored e f = f ∙ sym (by-minor false (ne-eqb (n .minor) 127 e))
 
 -- ---- refused, or accepted
 

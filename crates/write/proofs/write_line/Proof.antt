@@ -124,7 +124,7 @@ returns-3 c =
     let test = left (call .before) in
     let path = seen (test .before) in
     let a = start (entered path) .args in
-    call .raise .ensures ∙ write-stored (loads path .1) (a .text .now) (a .allowance) (test .if1 .left)
+    write-stored (loads path .1) (a .text .now) (a .allowance) (test .if1 .left) (call .raise .ensures)
 
 pub write-line-spec : {M : Type 1} → statement M
 write-line-spec =
