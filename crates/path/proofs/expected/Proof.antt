@@ -23,7 +23,7 @@ add-on-path : tie.Need-add-on-path
 add-on-path c = search needs
 
 on-path-requires : tie.Need-on-path-requires
-on-path-requires c κs = search needs
+on-path-requires c κs = omega arith
 
 abbrev start : tie.After-on-path → tie.Start
 start c = c .before .before .before .before
