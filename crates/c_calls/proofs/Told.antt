@@ -60,24 +60,24 @@ module _ (numbers : List ℕ) (right : length numbers ≡ 24) where
       → (r ≡ codeForC numbers a) × ((n ≡ bufferForC numbers a) × (x ≡ leftForC numbers before after))
   right-told before after {x = x} same left {r} f {n} g = (right-code r f same, (right-buffer n g same, right-left before after x left))
 
-  pub right-call : (m : Module) {x : Called} {b : Answer} {l : Module} → record { answer = b; after = l } ≡ x
+  pub right-call : (m : Module) (x : Called) {b : Answer} {l : Module} → record { answer = b; after = l } ≡ x
       → {r : ℕ} → r ≡ codeOf b → {n : List ℕ} → n ≡ bytesOf 8 (valuesOf b)
       → (r ≡ codeForC numbers (x .answer)) × ((n ≡ bufferForC numbers (x .answer)) × (l ≡ leftForC numbers m (x .after)))
-  right-call m {x} e = right-told m (x .after) (ap (λ (z : Called). z .answer) e) (ap (λ (z : Called). z .after) e)
+  right-call m x e = right-told m (x .after) (ap (λ (z : Called). z .answer) e) (ap (λ (z : Called). z .after) e)
 
-  pub right-read : (m : Module) (out : List ℕ) {x : Reading} {b : Answer} {l : Module} {o : List ℕ}
+  pub right-read : (m : Module) (out : List ℕ) (x : Reading) {b : Answer} {l : Module} {o : List ℕ}
       → record { called = record { answer = b; after = l }; output = o } ≡ x
       → {r : ℕ} → r ≡ codeOf b → {n : List ℕ} → n ≡ bytesOf 8 (valuesOf b)
       → (r ≡ codeForC numbers (x .called .answer)) × ((n ≡ bufferForC numbers (x .called .answer))
       × ((l ≡ leftForC numbers m (x .called .after)) × (o ≡ leftForC numbers out (x .output))))
-  right-read m out {x} {b} {l} {o} e f g =
-      let all = right-call m (ap (λ (z : Reading). z .called) e) f g in
+  right-read m out x {b} {l} {o} e f g =
+      let all = right-call m (x .called) (ap (λ (z : Reading). z .called) e) f g in
       (all .0, (all .1 .0, (all .1 .1, right-left out (x .output) o (ap (λ (z : Reading). z .output) e))))
 
-  pub right-list : (out : List ℕ) {x : Listing} {b : Answer} {o : List ℕ} → record { answer = b; output = o } ≡ x
+  pub right-list : (out : List ℕ) (x : Listing) {b : Answer} {o : List ℕ} → record { answer = b; output = o } ≡ x
       → {r : ℕ} → r ≡ codeOf b → {n : List ℕ} → n ≡ bytesOf 8 (valuesOf b)
       → (r ≡ codeForC numbers (x .answer)) × ((n ≡ bufferForC numbers (x .answer)) × (o ≡ leftForC numbers out (x .output)))
-  right-list out {x} e = right-told out (x .output) (ap (λ (z : Listing). z .answer) e) (ap (λ (z : Listing). z .output) e)
+  right-list out x e = right-told out (x .output) (ap (λ (z : Listing). z .answer) e) (ap (λ (z : Listing). z .output) e)
 
 -- the code of a call is small
 small : {a b : Answer} → b ≡ a → codeOf a ≤ 100 + lastRefusal → codeOf b < 200

@@ -162,6 +162,6 @@ pub extern "C" fn nv_dirty_pages(
     if numbers.len() != 24 {
         return BAD_NUMBERS;
     }
-    let answer = dirty_pages::dirty_pages(control, cache, list);
-    tell(answer, numbers)
+    let listed = dirty_pages::dirty_pages(control, cache, list);
+    tell(listed, numbers)
 }

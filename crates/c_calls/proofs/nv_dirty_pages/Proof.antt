@@ -37,9 +37,10 @@ returns-2 : tie.Need-returns-2
 returns-2 c =
     let told = c .before .before in
     let call = told .before .before .before .before in
-    let a = start (call .before .before .before) .args in
-    right-list (a .numbers .now) (call .before .before .if1 .left) (a .list .now) (call .dirty-pages .ensures) (told .tell .ensures .0)
-    (told .tell .ensures .1)
+    let at = call .before .before .before in
+    let a = start at .args in
+    right-list (a .numbers .now) (call .before .before .if1 .left) (a .list .now) (defined at) (call .dirty-pages .ensures)
+    (told .tell .ensures .0) (told .tell .ensures .1)
 
 pub nv-dirty-pages-spec : {M : Type 1} → statement M
 nv-dirty-pages-spec =

@@ -53,7 +53,7 @@ returns-2 c =
     let at = call .before .before .before .before .before .before in
     let right = call .before .before .before .before .before .if1 .left in
     let a = start at .args in
-    right-read (a .numbers .now) right (given at) (a .out .now) (call .read .ensures) (told .tell .ensures .0)
+    right-read (a .numbers .now) right (given at) (a .out .now) (defined at) (call .read .ensures) (told .tell .ensures .0)
     (told .tell .ensures .1)
 
 pub nv-read-spec : {M : Type 1} → statement M
