@@ -1,5 +1,6 @@
 -- `bench_program::take_byte` meets its contract. Assumes nothing.
 use mathlib.Core.Path.{ap, _∙_}
+use native.Mathlib.Omega.{arith}
 use borrow.Author.Needs.{needs}
 use Rattle.commands.specs.declared.Parser.{Parser}
 use Rattle.bench_session.specs.Session.{State, stateOf}
@@ -28,7 +29,7 @@ returns c =
     let call = c .before .before .before .before .before .before in
     let test = call .before .before .before .before in
     let start = test .before .before .before .before .before in
-    call .end-line .ensures ∙ newline (start .args .keys .now) (entered start) (start .args .b) (test .if1 .taken)
+    call .end-line .ensures ∙ newline (start .args .keys .now) (entered start) (start .args .b) (omega (arith, test .if1 .taken))
 
 step-requires : tie.Need-step-requires
 step-requires c κs = search needs
