@@ -160,6 +160,6 @@ history-rule keys h given es rest allowance plain = go (formatRefusal keys h giv
     go zero e yea ok =
         let f = format-accepted keys h given e in
         let S : Setting =
-        record { keys = keys; keyed = record { at = plain }; k48 = f .keys-length; h = h; low = f .low; high = f .high } in
+        record { keys = keys; keyed = record { at = plain }; keys-length = f .keys-length; h = h; low = f .low; high = f .high } in
         let l = led S es (recovers keys allowance ∷ rest) false emptyBook _ (ready-inv S (first-ready S)) ok in
         let r = ends (l .inv .holds) allowance in (never-refused _ r, restores _ r)

@@ -22,7 +22,7 @@ use Rattle.history_laws.specs.History.{Book, changed, turnedCount}
 pub record Setting : Type 0 where
   pub keys : List ℕ
   pub keyed : Below 256 keys
-  pub k48 : length keys ≡ 48
+  pub keys-length : length keys ≡ 48
   pub h : ℕ
   pub low : 1 ≤ h
   pub high : h ≤ 3

@@ -125,7 +125,7 @@ module _ {S : Setting} {b : Book} {o : Opening} where
   pub tests-pass : {m : Module} → Holds S b o m → Opened (S .keys) m
   tests-pass held =
       record {
-        keys-length = S .k48;
+        keys-length = S .keys-length;
         control-length = held .formed .control-length;
         right = held .right;
         fits = record {
