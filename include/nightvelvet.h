@@ -15,8 +15,8 @@
 //     store needs this.
 //   - NOTHING MAY BE READ, WRITTEN OR TURNED BEFORE A RECOVERY IS DONE, after power-up, a reset or NV_CUT. Not every such
 //     call is refused; a write can then cost the module, or put two texts under one pad.
-//   - WHERE THE RECOVERY AFTER A POWER FAILURE IS REFUSED as 27, 28, 29 or 32, no text can be read through the library any
-//     more. Damage, wrong tag keys or a recovery left out lead there; power failures do not, but for one inside the commit
+//   - WHERE THE RECOVERY AFTER A POWER FAILURE IS REFUSED as 21, 27, 28, 29 or 32, no text can be read through the library
+//     any more. Damage, wrong tag keys or a recovery left out lead there; power failures do not, but for one inside the commit
 //     of a turn. Keep array and control record as they are, and report.
 //
 // What the caller must ensure, since no check can see it:

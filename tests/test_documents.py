@@ -92,8 +92,8 @@ def most_stores():
 
 
 def near(instructions):
-    """Up to one in 200 more or less: those of the C library's functions, which machines differ in, are among them."""
-    return range(instructions * 199 // 200, instructions * 201 // 200 + 1)
+    """Up to one in 50 more or less: those of the C library's functions, which machines differ in, are among them."""
+    return range(instructions * 49 // 50, instructions * 51 // 50 + 1)
 
 
 def rows():
