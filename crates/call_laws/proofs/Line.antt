@@ -11,7 +11,7 @@ use Rattle.words.proofs.Digits.{Below, below-append, below-cons, below-digits, 
 use Rattle.memory_map.specs.Map.{lines, arrayLength, pageOf, cellOf, InMap}
 use Rattle.memory_map.specs.Map.Item.{line}
 use Rattle.memory_map.proofs.Laws.{cell-within, page-node}
-use Rattle.counter.specs.Counter.{major, phaseOf}
+use Rattle.counter.specs.Counter.{major, lag}
 use Rattle.pad.specs.Pad.{pad, xorBytes}
 use Rattle.pad.proofs.Nonce.{length-pad, below-pad}
 use Rattle.pad.proofs.Xor.{length-xor, below-xor}
@@ -77,7 +77,7 @@ module _ (h : ℕ) (keys a c : List ℕ) (n : ℕ) where
 
 pub block-few : (h p mi : ℕ) (b : List ℕ) → length (blockCells h p mi b) ≤ 1
 unfolding blockCells
-block-few h p mi b = go (eqb (phaseOf mi) 0)
+block-few h p mi b = go (eqb (lag mi) 0)
   where
     go : (t : Bool) → length (cond t (nodeCell h 0 p b ∷ []) []) ≤ 1
     go true = le-refl 1
@@ -85,7 +85,7 @@ block-few h p mi b = go (eqb (phaseOf mi) 0)
 
 block-sound : {h n : ℕ} {text b : List ℕ} (mi : ℕ) → Lent h n text b → Each (Sound h) (blockCells h (pageOf n) mi b)
 unfolding blockCells
-block-sound {h} {n} {text} {b} mi v = go (eqb (phaseOf mi) 0)
+block-sound {h} {n} {text} {b} mi v = go (eqb (lag mi) 0)
   where
     go : (t : Bool) → Each (Sound h) (cond t (nodeCell h 0 (pageOf n) b ∷ []) [])
     go true = more (sound-node h 0 (pageOf n) b (page-node h n (v .inside)) (v .wide) (v .block-bytes)) none

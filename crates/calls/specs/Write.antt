@@ -6,7 +6,7 @@ use mathlib.Core.List.{List, [], _∷_, _++_}
 use lib.Dec.{eqb}
 use lib.ListN.{length}
 use Rattle.memory_map.specs.Map.{pageOf, placeOf}
-use Rattle.counter.specs.Counter.{major, withMinor, phaseOf}
+use Rattle.counter.specs.Counter.{major, withMinor, lag}
 use Rattle.pad.specs.Pad.{pad, xorBytes}
 use Rattle.answer.specs.declared.Answer.the-variants.{Done}
 use Rattle.control.specs.Control.{depth, Cell}
@@ -24,7 +24,7 @@ newBlock c line = withMinor (pageBlock c line) (placeOf line) (newMinor c line)
 
 -- the block joins the batch where the new minor is a multiple of 4, and its slot is then clean
 abbrev pub stopLoss : List ℕ → ℕ → Bool
-stopLoss c line = eqb (phaseOf (newMinor c line)) 0
+stopLoss c line = eqb (lag (newMinor c line)) 0
 
 -- the data cell of a text at a counter
 unfoldable pub lineCell : List ℕ → ℕ → List ℕ → ℕ → ℕ → Cell

@@ -24,9 +24,13 @@ counterBlock m ms = toLe 8 m ++ toLe 56 (number 128 ms)
 unfoldable pub withMinor : List ℕ → ℕ → ℕ → List ℕ
 withMinor b j v = counterBlock (major b) (set (minors b) j v)
 
--- the phase of a minor
+-- the phase of a minor, a byte beside its line
 abbrev pub phaseOf : ℕ → ℕ
 phaseOf s = s % 4
+
+-- how far behind a minor the one in its stored block may be: the block is stored at each multiple of 4 (stop-loss 4)
+abbrev pub lag : ℕ → ℕ
+lag s = s % 4
 
 -- a minor s brought forward to a phase p: s + ((p - s) mod 4)
 unfoldable pub forward : ℕ → ℕ → ℕ

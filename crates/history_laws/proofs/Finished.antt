@@ -9,7 +9,7 @@ use native.Mathlib.Omega.{arith}
 use Rattle.words.specs.Bytes.{part}
 use Rattle.words.proofs.Order.{eq-or-not}
 use Rattle.memory_map.specs.Map.{pageOf, placeOf, lines}
-use Rattle.counter.specs.Counter.{major, minor, counterBlock, phaseOf, turnedMinor, turned}
+use Rattle.counter.specs.Counter.{major, minor, counterBlock, lag, turnedMinor, turned}
 use Rattle.turn_block.proofs.Laws.{turned-lt}
 use Rattle.calls.specs.Format.{countsFrom, freshNode}
 use Rattle.history_laws.specs.History.{Book, turnEntered}
@@ -91,9 +91,9 @@ module _ {S : Setting} {b : Book} {o : Opening} {a c : List ℕ} {p : ℕ} (k : 
             behind = λ q j r l. page-cases w same x (λ y. minor y j ≤ U .count (64 * q + j)) q r
                 (λ e. omega (arith, fresh-minor S U-small q j l))
                 (λ e. omega (arith, old .behind q j r l, same q (other-page e) .count (64 * q + j) (omega arith)));
-            near = λ q j r l. page-cases w same x (λ y. U .count (64 * q + j) ≤ minor y j + phaseOf (U .count (64 * q + j))) q r
+            near = λ q j r l. page-cases w same x (λ y. U .count (64 * q + j) ≤ minor y j + lag (U .count (64 * q + j))) q r
                 (λ e. omega (arith, fresh-minor S U-small q j l))
-                (λ e. subst (λ (i : ℕ). i ≤ minor (nodeIn S a 0 q) j + phaseOf i)
+                (λ e. subst (λ (i : ℕ). i ≤ minor (nodeIn S a 0 q) j + lag i)
                 (same q (other-page e) .count (64 * q + j) (omega arith)) (old .near q j r l));
             phases = λ n q. cells n q .1;
             open-block = λ q r e. absurd (false≢true e);

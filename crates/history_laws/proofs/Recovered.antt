@@ -14,7 +14,7 @@ use Rattle.memory_map.specs.Map.{pageOf, pages, lines, nodes, slots, arrayLengt
 use Rattle.memory_map.proofs.Laws.{nodes-small, nodes-below, nodes-bottom, nodes-some}
 use Rattle.slot_map.specs.Slots.{cacheLength, slotOf, levelOf}
 use Rattle.slot_map.proofs.Laws.{slot-within, level-slot, level-low, level-high, level-within, belongs-node}
-use Rattle.counter.specs.Counter.{major, minors, minor, counterBlock, phaseOf}
+use Rattle.counter.specs.Counter.{major, minors, minor, counterBlock, phaseOf, lag}
 use Rattle.counter.proofs.Laws.{length-minors, forward-reaches}
 use Rattle.cache.specs.Cache.{owner, dirty, content, shadowOwner, shadowOwners, withSlot}
 use Rattle.cache.specs.Cache.{badSlot, emptyCache, from, holds, current}
@@ -47,7 +47,7 @@ module _ (S : Setting) (T : Tree) (o : Opening) where
     pub stored : (l i : ℕ) → l ≤ h → i < nodes h l → (shadowOwner h a (slotOf l i) ≡ suc i → ⊥) → nodeIn S a l i ≡ treeNode S T l i
     pub majors : (p : ℕ) → p < pages h → major (nodeIn S a 0 p) ≡ T .major p
     pub behind : (p j : ℕ) → p < pages h → j < 64 → minor (nodeIn S a 0 p) j ≤ count (64 * p + j)
-    pub near : (p j : ℕ) → p < pages h → j < 64 → count (64 * p + j) ≤ minor (nodeIn S a 0 p) j + phaseOf (count (64 * p + j))
+    pub near : (p j : ℕ) → p < pages h → j < 64 → count (64 * p + j) ≤ minor (nodeIn S a 0 p) j + lag (count (64 * p + j))
     pub phases : (n : ℕ) → n < lines h → phaseByte a n ≡ phaseOf (sealed o T n .count n)
     pub open-block : (p : ℕ) → p < pages h → opens o p ≡ true → nodeIn S a 0 p ≡ treeNode S T 0 p
 

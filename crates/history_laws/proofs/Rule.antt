@@ -9,7 +9,7 @@ use native.Mathlib.Omega.{arith}
 use lib.ListN.{length}
 use Rattle.memory_map.specs.Map.{pageOf, placeOf, lines}
 use Rattle.memory_map.proofs.Laws.{nodes-bottom, page-inside}
-use Rattle.counter.specs.Counter.{minor, phaseOf}
+use Rattle.counter.specs.Counter.{minor, lag}
 use Rattle.answer.specs.declared.Answer.{Answer}
 use Rattle.answer.specs.declared.Answer.the-variants.{Done, Cut}
 use Rattle.answer.specs.Answer.{codeOf, storesOf, firstOf}
@@ -104,7 +104,7 @@ module _ {S : Setting} {b : Book} {o : Opening} {m : Module} (r : Ready S b o m)
       let d = was .keeps .durable in
       let behind = subst (λ (x : ℕ). storedMinor h m n ≤ b .count x) place
       (d .behind (pageOf n) (placeOf n) (page-inside h n q) (omega arith)) in
-      let close = subst (λ (x : ℕ). b .count x ≤ storedMinor h m n + phaseOf (b .count x)) place
+      let close = subst (λ (x : ℕ). b .count x ≤ storedMinor h m n + lag (b .count x)) place
       (d .near (pageOf n) (placeOf n) (page-inside h n q) (omega arith)) in
       (omega (arith, behind, counter-is n q), omega (arith, close, counter-is n q))
 

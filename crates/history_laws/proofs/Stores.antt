@@ -20,7 +20,7 @@ use Rattle.memory_map.specs.Map.Item.{line, node, shadow}
 use Rattle.memory_map.proofs.Laws.{cell-within, cell-injective, nodes-bottom}
 use Rattle.slot_map.specs.Slots.{slotOf, levelOf, belongs}
 use Rattle.slot_map.proofs.Laws.{slot-within, level-slot, node-belongs}
-use Rattle.counter.specs.Counter.{major, minor, phaseOf}
+use Rattle.counter.specs.Counter.{major, minor, lag}
 use Rattle.cache.specs.Cache.{cellContent, shadowOwner, topSlot}
 use Rattle.cache.proofs.Laws.{owned-same}
 use Rattle.calls.specs.Recovery.{phaseByte}
@@ -239,7 +239,7 @@ module _ {S : Setting} {T : Tree} {o : Opening} {a : List ℕ} (m : Durable S T 
           majors = λ p q. node-cases (λ b. major b ≡ T .major p) 0 p zero-le (page-in h p q) (fresh-major S (m .small) p) (m .majors p q);
           behind = λ p j q r. node-cases (λ b. minor b j ≤ count (64 * p + j)) 0 p zero-le (page-in h p q)
               (omega (arith, fresh-minor S (m .small) p j r)) (m .behind p j q r);
-          near = λ p j q r. node-cases (λ b. count (64 * p + j) ≤ minor b j + phaseOf (count (64 * p + j))) 0 p zero-le (page-in h p q)
+          near = λ p j q r. node-cases (λ b. count (64 * p + j) ≤ minor b j + lag (count (64 * p + j))) 0 p zero-le (page-in h p q)
               (omega (arith, fresh-minor S (m .small) p j r)) (m .near p j q r);
           phases = λ n p. phases-apart w (λ (q : _≡_ {A = ℕ} 1 0). omega arith) n p ∙ m .phases n p;
           open-block = λ p q e. fresh-kept 0 p zero-le (page-in h p q) (m .open-block p q e);
@@ -332,7 +332,7 @@ module _ {S : Setting} {T : Tree} {o : Opening} {a : List ℕ} (m : Durable S T 
               ∙ stored k j p q o (eq-or-not (shadowOwner h a (slotOf k j)) (suc j)) (eq-or-not (slotOf k j) (slotOf l i));
           majors = λ p q. ap major (page-there p q) ∙ m .majors p q;
           behind = λ p j q r. subst (λ (b : List ℕ). minor b j ≤ count (64 * p + j)) (sym (page-there p q)) (m .behind p j q r);
-          near = λ p j q r. subst (λ (b : List ℕ). count (64 * p + j) ≤ minor b j + phaseOf (count (64 * p + j))) (sym (page-there p q))
+          near = λ p j q r. subst (λ (b : List ℕ). count (64 * p + j) ≤ minor b j + lag (count (64 * p + j))) (sym (page-there p q))
               (m .near p j q r);
           phases = λ n p. phases-apart u (λ (q : _≡_ {A = ℕ} 2 0). omega arith) n p ∙ m .phases n p;
           open-block = λ p q e. page-there p q ∙ m .open-block p q e;

@@ -16,7 +16,7 @@ use Rattle.memory_map.specs.Map.{pageOf, placeOf, pages, lines, nodes, slots, c
 use Rattle.memory_map.specs.Map.Item.{line}
 use Rattle.slot_map.specs.Slots.{slotOf, levelOf}
 use Rattle.slot_map.proofs.Laws.{slot-within, level-within}
-use Rattle.counter.specs.Counter.{major, minor, phaseOf}
+use Rattle.counter.specs.Counter.{major, minor, lag}
 use Rattle.turn_block.proofs.Laws.{turned-some}
 use Rattle.cache.specs.Cache.{shadowOwner}
 use Rattle.cache.proofs.Laws.{owned-same, slot-holds}
@@ -145,7 +145,7 @@ module _ {S : Setting} {b : Book} {o : Opening} {a : List ℕ} (k : Keeps S b o 
               ∙ d .stored l i q r (λ z. e (shadows-same (slotOf l i) (slot-within h l i q) ∙ z));
           majors = λ q r. ap major (same q r) ∙ d .majors q r;
           behind = λ q i r l. subst (λ (x : List ℕ). minor x i ≤ b .count (64 * q + i)) (sym (same q r)) (d .behind q i r l);
-          near = λ q i r l. subst (λ (x : List ℕ). b .count (64 * q + i) ≤ minor x i + phaseOf (b .count (64 * q + i))) (sym (same q r))
+          near = λ q i r l. subst (λ (x : List ℕ). b .count (64 * q + i) ≤ minor x i + lag (b .count (64 * q + i))) (sym (same q r))
               (d .near q i r l);
           phases = λ x q. cells x q .1;
           open-block = λ q r e.

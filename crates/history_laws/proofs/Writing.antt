@@ -14,7 +14,7 @@ use Rattle.words.proofs.Digits.{Below}
 use Rattle.words.proofs.Order.{lt-or-ge, eq-or-not}
 use Rattle.words.proofs.Words.{part-lt}
 use Rattle.memory_map.specs.Map.{pageOf, lines}
-use Rattle.counter.specs.Counter.{phaseOf}
+use Rattle.counter.specs.Counter.{lag}
 use Rattle.pad.specs.Pad.{pad, xorBytes}
 use Rattle.answer.specs.declared.Answer.{Answer}
 use Rattle.answer.specs.declared.Answer.the-variants.{Done}
@@ -134,7 +134,7 @@ module _ {S : Setting} {b : Book} {o : Opening} {m : Module} {n : ℕ} (w : Acce
           not-open = sym (section-open (s .section) (pageOf n)) ∙ access-accepted keys n text m (t .open-now) .closed;
           room = t .room;
           full = t .full;
-          when = ap (λ (k : ℕ). eqb (phaseOf (suc k)) 0) (minor-is w);
+          when = ap (λ (k : ℕ). eqb (lag (suc k)) 0) (minor-is w);
         }
 
     data-is : dataCell keys n text c ≡ record { number = n; bytes = dataBytes S U n text }

@@ -14,7 +14,7 @@ use Rattle.words.proofs.Order.{eq-or-not}
 use Rattle.memory_map.specs.Map.{pageOf, placeOf, pages, lines, cellOf}
 use Rattle.memory_map.specs.Map.Item.{line}
 use Rattle.memory_map.proofs.Laws.{path-bottom}
-use Rattle.counter.specs.Counter.{major, minor, withMinor, phaseOf}
+use Rattle.counter.specs.Counter.{major, minor, withMinor, phaseOf, lag}
 use Rattle.journal.proofs.Again.{put-cells}
 use Rattle.calls.specs.Read.{pageBlock, lineMinor}
 use Rattle.calls.specs.Write.{newBlock}
@@ -82,7 +82,7 @@ module _ {S : Setting} {T : Tree} {o : Opening} {a c : List ℕ} {n : ℕ} (w : 
     pub not-open : opens o p ≡ false
     pub room : count n < 127
     pub full : length text ≡ 64
-    pub when : stop ≡ eqb (phaseOf (suc (count n))) 0
+    pub when : stop ≡ eqb (lag (suc (count n))) 0
 
   module _ {text : List ℕ} {stop : Bool} (t : Entry text stop) where
     U-small : Small U
@@ -132,21 +132,21 @@ module _ {S : Setting} {T : Tree} {o : Opening} {a c : List ℕ} {n : ℕ} (w : 
         go (inl z) = omega (arith, v .durable .behind q j r s, ap count z, ap (U .count) z ∙ raised-same T n)
         go (inr z) = omega (arith, v .durable .behind q j r s, other (64 * q + j) z)
 
-    near : (q j : ℕ) → q < pages h → j < 64 → U .count (64 * q + j) ≤ minor (nodeIn S written 0 q) j + phaseOf (U .count (64 * q + j))
+    near : (q j : ℕ) → q < pages h → j < 64 → U .count (64 * q + j) ≤ minor (nodeIn S written 0 q) j + lag (U .count (64 * q + j))
     near q j r s =
-        page-cases path same b (λ x. U .count (64 * q + j) ≤ minor x j + phaseOf (U .count (64 * q + j))) q r
+        page-cases path same b (λ x. U .count (64 * q + j) ≤ minor x j + lag (U .count (64 * q + j))) q r
         (λ e. omega (arith, new-minor q j s)) (λ e. go e (eq-or-not (64 * q + j) n))
       where
         go : (q ≡ p → stop ≡ false) → (64 * q + j ≡ n) ⊎ (64 * q + j ≡ n → ⊥)
-            → U .count (64 * q + j) ≤ minor (nodeIn S a 0 q) j + phaseOf (U .count (64 * q + j))
-        go e (inr z) = subst (λ (x : ℕ). x ≤ minor (nodeIn S a 0 q) j + phaseOf x) (other (64 * q + j) z) (v .durable .near q j r s)
+            → U .count (64 * q + j) ≤ minor (nodeIn S a 0 q) j + lag (U .count (64 * q + j))
+        go e (inr z) = subst (λ (x : ℕ). x ≤ minor (nodeIn S a 0 q) j + lag x) (other (64 * q + j) z) (v .durable .near q j r s)
         go e (inl z) =
             let there : q ≡ p = omega arith in
-            let part-way : phaseOf (suc (count n)) ≡ 0 → ⊥ =
-            λ w. false≢true (sym (sym (t .when) ∙ e there) ∙ eq-eqb (phaseOf (suc (count n))) 0 w) in
-            let old : count n ≤ minor (nodeIn S a 0 q) j + phaseOf (count n) =
-            subst (λ (x : ℕ). count x ≤ minor (nodeIn S a 0 q) j + phaseOf (count x)) z (v .durable .near q j r s) in
-            subst (λ (x : ℕ). x ≤ minor (nodeIn S a 0 q) j + phaseOf x) (sym (ap (U .count) z ∙ raised-same T n))
+            let part-way : lag (suc (count n)) ≡ 0 → ⊥ =
+            λ w. false≢true (sym (sym (t .when) ∙ e there) ∙ eq-eqb (lag (suc (count n))) 0 w) in
+            let old : count n ≤ minor (nodeIn S a 0 q) j + lag (count n) =
+            subst (λ (x : ℕ). count x ≤ minor (nodeIn S a 0 q) j + lag (count x)) z (v .durable .near q j r s) in
+            subst (λ (x : ℕ). x ≤ minor (nodeIn S a 0 q) j + lag x) (sym (ap (U .count) z ∙ raised-same T n))
             (omega (arith, part-way, old))
 
     phases : (x : ℕ) → x < lines h → phaseByte written x ≡ phaseOf (sealed o U x .count x)

@@ -10,7 +10,7 @@ use lib.ListN.{length, getD}
 use Rattle.memory_map.specs.Map.{cells, pageOf, onPath, cellOf, InMap}
 use Rattle.memory_map.specs.Map.Item.{line, node}
 use Rattle.memory_map.proofs.Laws.{cell-injective, page-node, path-node}
-use Rattle.counter.specs.Counter.{phaseOf}
+use Rattle.counter.specs.Counter.{lag}
 use Rattle.answer.specs.declared.Answer.the-variants.{Done, Cut}
 use Rattle.control.specs.Control.{Cell}
 use Rattle.batch.specs.Batch.{stagedFrom}
@@ -84,7 +84,7 @@ module _ {h : ℕ} {a k c : List ℕ} {n : ℕ} (y : Ready h a k c (pageOf n)) (
   batch-other : (l : ℕ) → 1 ≤ l → l ≤ h → holds c l (onPath p l) ≡ false → Each (Other h (node l (onPath p l))) cs
   unfolding lineCells blockCells
   batch-other l q lh e =
-      each-append (each-append (node-avoids h c (fit y .formed) p (y .page) l lh e) (block-other l q lh (eqb (phaseOf mi) 0)))
+      each-append (each-append (node-avoids h c (fit y .formed) p (y .page) l lh e) (block-other l q lh (eqb (lag mi) 0)))
       (more {x = lineCell keys n text ma mi} (data-other l lh) none)
 
   -- ---- run, with the tags of the renewed path

@@ -5,7 +5,7 @@ use mathlib.Core.List.{List}
 use lib.Dec.{eqb}
 use lib.ListN.{length}
 use Rattle.memory_map.specs.Map.{pageOf}
-use Rattle.counter.specs.Counter.{phaseOf}
+use Rattle.counter.specs.Counter.{lag}
 use Rattle.answer.specs.declared.Answer.the-variants.{Done}
 use Rattle.journal.specs.Journal.{batchStores}
 use Rattle.calls.specs.Path.{renewPath, renewedRoot}
@@ -19,4 +19,4 @@ storedLine h keys line text ma mi b allowance m =
     let p = pageOf line in
     let d = withPath h (m .array) p (suc h) (m .cache) in
     let xs = batchStores (lineCells h keys (m .cache) line text ma mi b) (renewedRoot h keys d p b) in
-    storing allowance m xs (Done (length xs) 0) (renewPath keys d p b (cond (eqb (phaseOf mi) 0) 0 1) h)
+    storing allowance m xs (Done (length xs) 0) (renewPath keys d p b (cond (eqb (lag mi) 0) 0 1) h)

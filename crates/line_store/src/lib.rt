@@ -5,7 +5,7 @@ ghost use Prim.Native.Nat.{suc, _<_};
 ghost use lib.ListN.{length};
 ghost use lib.Dec.{eqb};
 ghost use Rattle.memory_map.specs.Map.{lines, pageOf};
-ghost use Rattle.counter.specs.Counter.{phaseOf};
+ghost use Rattle.counter.specs.Counter.{lag};
 ghost use Rattle.control.specs.Control.{controlLength};
 ghost use Rattle.cache.specs.Cache.{formed};
 ghost use Rattle.node.specs.Sized.{Sized};
@@ -16,7 +16,7 @@ use answer::Answer;
 
 // The flag of a counter block's slot: clean where the block is stored.
 fn block_flag(minor: u64) -> u8
-    ensures { λ r. ⌜ r ≡ cond (eqb (phaseOf minor) 0) 0 1 ⌝ }
+    ensures { λ r. ⌜ r ≡ cond (eqb (lag minor) 0) 0 1 ⌝ }
 {
     if minor % 4 == 0 {
         return 0;

@@ -8,7 +8,7 @@ use borrow.Author.Tests.{eq-eqb, ne-eqb}
 use lib.Dec.{eqb}
 use lib.ListN.{length}
 use Rattle.memory_map.specs.Map.{pageOf, placeOf}
-use Rattle.counter.specs.Counter.{withMinor, phaseOf}
+use Rattle.counter.specs.Counter.{withMinor, lag}
 use Rattle.answer.specs.declared.Answer.{Answer}
 use Rattle.answer.specs.declared.Answer.the-variants.{Done, Refused}
 use Rattle.control.specs.Control.{Cell}
@@ -85,7 +85,7 @@ module _ {h : ℕ} {keys a k c : List ℕ} {line : ℕ} {n : Line} (found : Foun
       ∙ ap (λ (t : Bool). stored t (writeBatch h keys line text d x) (newBlock d line) (stopLoss d line))
       (ap (λ (i : ℕ). eqb i 127) (minor-found found) ∙ e)
       ∙ ap₂ {C = Called} (λ (bs : List Cell) (b : List ℕ). stored full bs b (stopLoss d line)) next-batch next-block
-      ∙ ap (λ (i : ℕ). stored full (lineCells h keys c line text (n .major) (n .minor + 1) next) next (eqb (phaseOf i) 0)) next-minor
+      ∙ ap (λ (i : ℕ). stored full (lineCells h keys c line text (n .major) (n .minor + 1) next) next (eqb (lag i) 0)) next-minor
 
   -- 26
   pub write-full : n .minor ≡ 127 → {r : Answer} → r ≡ Refused 26 0 0 0 → ended r a k c ≡ whole

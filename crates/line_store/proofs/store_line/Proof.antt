@@ -9,7 +9,7 @@ use borrow.Author.Needs.{needs}
 use lib.ListN.{getD}
 use Rattle.memory_map.specs.Map.{pages, pageOf, onPath}
 use Rattle.slot_map.specs.Slots.{slotOf}
-use Rattle.counter.specs.Counter.{phaseOf}
+use Rattle.counter.specs.Counter.{lag}
 use Rattle.cache.specs.Cache.{owner}
 use Rattle.memory_map.proofs.Laws.{page-inside}
 use Rattle.journal.specs.Journal.{media}
@@ -208,7 +208,7 @@ returns-2 c =
     let a = start at .args in
     let t = tags .path-tags .result in
     let b = a .block .now in
-    let f : ℕ = cond (eqb (phaseOf (a .minor)) 0) 0 1 in
+    let f : ℕ = cond (eqb (lag (a .minor)) 0) 0 1 in
     write-done (ready at) (a .keys .now) (lent at) (a .major) (a .minor) t (known tags) (staged g)
     refl (ran r) f (test .if1 .left) (new .renew-path .last .1 .1 .1 .1 .1 .0)
     (new .renew-path .ensures
