@@ -31,7 +31,11 @@ emptyCache h = replicate (cacheLength h) 0
 
 -- The array's cells
 
--- the first 64 bytes of cell n
+-- the 72 bytes of cell n
+abbrev pub cellBytes : List ℕ → ℕ → List ℕ
+cellBytes a n = part a (72 * n) 72
+
+-- the first 64 of them
 unfoldable pub cellContent : List ℕ → ℕ → List ℕ
 cellContent a n = part a (72 * n) 64
 

@@ -4,10 +4,9 @@ use mathlib.Core.Bool.{Bool, true, false, cond}
 use mathlib.Core.List.{List, [], _∷_, _++_}
 use Prim.Native.Nat.{ℕ, _+_, _≤_, _<_, zero-le}
 use native.Mathlib.Nat.{le-refl}
-use native.Mathlib.Omega.{arith}
-use lib.Dec.{eqb, lit<}
+use lib.Dec.{eqb}
 use lib.ListN.{length, length-append}
-use Rattle.words.proofs.Digits.{Below, below-append, below-cons, below-digits, length-digits}
+use Rattle.words.proofs.Digits.{Below, below-append}
 use Rattle.memory_map.specs.Map.{lines, arrayLength, pageOf, cellOf, InMap}
 use Rattle.memory_map.specs.Map.Item.{line}
 use Rattle.memory_map.proofs.Laws.{cell-within, page-node}
@@ -15,13 +14,14 @@ use Rattle.counter.specs.Counter.{major, lag}
 use Rattle.pad.specs.Pad.{pad, xorBytes}
 use Rattle.pad.proofs.Nonce.{length-pad, below-pad}
 use Rattle.pad.proofs.Xor.{length-xor, below-xor}
-use Rattle.tag.specs.Tag.{dataTag}
+use Rattle.side.specs.Side.{sideBytes}
+use Rattle.side.proofs.Laws.{below-side, length-cell}
 use Rattle.control.specs.Control.{Cell}
 use Rattle.cache.specs.Cache.{cellContent}
 use Rattle.cache.proofs.Laws.{cell-length, cell-below}
 use Rattle.journal.proofs.Each.{Each, none, more, each-append}
 use Rattle.calls.specs.Path.{nodeCell}
-use Rattle.calls.specs.Read.{sideBytes, pageBlock, lineMinor, lineText}
+use Rattle.calls.specs.Read.{pageBlock, lineMinor, lineText}
 use Rattle.calls.specs.Write.{lineCell}
 use Rattle.call_laws.specs.Line.{blockCells}
 use Rattle.call_laws.proofs.Loads.{Sound, sound-node}
@@ -45,9 +45,7 @@ module _ (keys : List ℕ) (n : ℕ) (text : List ℕ) (ma mi : ℕ) where
 
   pub line-cell-length : length text ≡ 64 → length (lineCell keys n text ma mi .bytes) ≡ 72
   unfolding lineCell
-  line-cell-length e =
-      length-append sealed (sideBytes keys sealed n ma mi)
-      ∙ omega (arith, sealed-length e, length-digits 256 7 (dataTag keys sealed n ma mi))
+  line-cell-length e = length-cell keys sealed n ma mi (sealed-length e)
 
   pub line-sound : {h : ℕ} {b : List ℕ} → Lent h n text b → Sound h (lineCell keys n text ma mi)
   unfolding lineCell InMap cellOf
@@ -57,7 +55,7 @@ module _ (keys : List ℕ) (n : ℕ) (text : List ℕ) (ma mi : ℕ) where
         size = line-cell-length (v .full);
         bytes =
             below-append sealed (sideBytes keys sealed n ma mi) (below-xor text (pad keys n ma mi) (v .text-bytes) (below-pad keys n ma mi))
-            (below-cons (omega arith) (below-digits 256 7 _ (lit< tt)));
+            (below-side keys sealed n ma mi);
       }
 
 -- ---- the text of a line, from its data cell

@@ -25,7 +25,8 @@ use Rattle.memory_map.specs.Map.{pages, lines, nodes, levelStart, slots, shadow
 use Rattle.slot_map.specs.Slots.{cacheLength, slotOf, levelOf, belongs}
 use Rattle.pad.specs.Pad.{pad, xorBytes}
 use Rattle.siphash.specs.SipHash.{initial, lastWord, messageWords, sipRound, compress, compressAll, finalize, sipHash}
-use Rattle.tag.specs.Tag.{nodeInput, nodeTag, dataInput, dataTag}
+use Rattle.tag.specs.Tag.{nodeInput, nodeTag, dataInput, dataHash}
+use Rattle.side.specs.Side.{sideBytes, sideFits}
 use Rattle.words.specs.Bytes.{number, digits, wordsOf, bytesOf}
 use Rattle.rotation.specs.Rotate.{rotl}
 
@@ -42,5 +43,5 @@ unfolding codeOf storesOf firstOf secondOf owner dirty content withSlot cellCont
     otherOpen validHead validTurn valid freshControl major minors counterBlock withMinor forward store storeAll stages finish
     batchStores pendingStores pages lines nodes levelStart slots shadowStart shadowCells cells arrayLength cacheLength cellOf InMap
     slotOf levelOf belongs pad xorBytes initial lastWord messageWords sipRound compress compressAll finalize sipHash nodeInput nodeTag
-    dataInput dataTag number digits wordsOf bytesOf rotl
+    dataInput dataHash sideBytes sideFits number digits wordsOf bytesOf rotl
 run = 0

@@ -1,20 +1,19 @@
 -- Reading a line.
 -- Assumes nothing.
-use Prim.Native.Nat.{ℕ, zero, suc, _+_, _*_}
+use Prim.Native.Nat.{ℕ, zero, suc}
 use mathlib.Core.Bool.{Bool, cond}
-use mathlib.Core.List.{List, _∷_}
+use mathlib.Core.List.{List}
 use lib.Dec.{eqb}
 use lib.ListN.{length, replicate}
-use Rattle.words.specs.Bytes.{fromLe, toLe, part}
 use Rattle.memory_map.specs.Map.{pageOf, placeOf}
 use Rattle.slot_map.specs.Slots.{slotOf}
-use Rattle.counter.specs.Counter.{major, minor, phaseOf}
+use Rattle.counter.specs.Counter.{major, minor}
 use Rattle.pad.specs.Pad.{pad, xorBytes}
-use Rattle.tag.specs.Tag.{dataTag}
+use Rattle.side.specs.Side.{sideFits}
 use Rattle.answer.specs.declared.Answer.the-variants.{Done, Blank}
 use Rattle.answer.specs.declared.Answer.{Answer}
 use Rattle.control.specs.Control.{Cell, root}
-use Rattle.cache.specs.Cache.{content, cellContent}
+use Rattle.cache.specs.Cache.{content, cellBytes, cellContent}
 use Rattle.journal.specs.Journal.{Store, batchStores, isCut}
 use Rattle.calls.specs.Path.{Loaded, loaded, differs}
 use Rattle.calls.specs.Call.{Module, Called, ended, accessRefusal, refuse, storing, pathOf}
@@ -26,15 +25,9 @@ pageBlock c line = content c (slotOf 0 (pageOf line))
 abbrev pub lineMinor : List ℕ → ℕ → ℕ
 lineMinor c line = minor (pageBlock c line) (placeOf line)
 
--- a data cell's side bytes: the phase, then the data tag
-abbrev pub sideBytes : List ℕ → List ℕ → ℕ → ℕ → ℕ → List ℕ
-sideBytes keys b line ma mi = phaseOf mi ∷ toLe 7 (dataTag keys b line ma mi)
-
--- whether a line's data cell has the phase and the tag of its counter
+-- whether a line's data cell has the side bytes of its counter
 unfoldable pub sideOk : List ℕ → List ℕ → List ℕ → ℕ → Bool
-sideOk keys a c line =
-    eqb (fromLe (part a (72 * line + 64) 8))
-    (fromLe (sideBytes keys (cellContent a line) line (major (pageBlock c line)) (lineMinor c line)))
+sideOk keys a c line = sideFits keys (cellBytes a line) line (major (pageBlock c line)) (lineMinor c line)
 
 unfoldable pub lineText : List ℕ → List ℕ → List ℕ → ℕ → List ℕ
 lineText keys a c line = xorBytes (cellContent a line) (pad keys line (major (pageBlock c line)) (lineMinor c line))

@@ -41,7 +41,7 @@ blockOf c p = content c (slotOf 0 p)
 unfoldable pub turnPlaces : List ℕ → List ℕ → ℕ → List ℕ
 turnPlaces k c p = cond (isOpen k p) (setBits (turnMask k)) (written (blockOf c p))
 
--- the first of these lines that has minor 0, a wrong phase or a wrong tag
+-- the first of these lines that has minor 0 or wrong side bytes
 unfoldable pub badLine : List ℕ → List ℕ → List ℕ → ℕ → List ℕ → Found
 badLine keys a c p [] = Nothing
 badLine keys a c p (j ∷ js) =

@@ -8,12 +8,13 @@ use lib.ListN.{length}
 use Rattle.memory_map.specs.Map.{pageOf, placeOf}
 use Rattle.counter.specs.Counter.{major, withMinor, lag}
 use Rattle.pad.specs.Pad.{pad, xorBytes}
+use Rattle.side.specs.Side.{sideBytes}
 use Rattle.answer.specs.declared.Answer.the-variants.{Done}
 use Rattle.control.specs.Control.{depth, Cell}
 use Rattle.journal.specs.Journal.{Store, batchStores}
 use Rattle.calls.specs.Path.{nodeCell, Loaded, loaded, differs, renewPath, renewedRoot}
 use Rattle.calls.specs.Call.{Module, Called, accessRefusal, refuse, storing, pathOf}
-use Rattle.calls.specs.Read.{pageBlock, lineMinor, sideBytes}
+use Rattle.calls.specs.Read.{pageBlock, lineMinor}
 
 abbrev pub newMinor : List ℕ → ℕ → ℕ
 newMinor c line = suc (lineMinor c line)

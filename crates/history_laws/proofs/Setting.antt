@@ -14,7 +14,7 @@ use Rattle.control.specs.Control.{turnCount, turnPage, turnMask, validTurn}
 use Rattle.cache.specs.Cache.{cellContent}
 use Rattle.pad.specs.Pad.{pad, xorBytes}
 use Rattle.tag.specs.Tag.{nodeTag}
-use Rattle.calls.specs.Read.{sideBytes}
+use Rattle.side.specs.Side.{sideBytes}
 use Rattle.calls.specs.Format.{freshNode, freshRoot}
 use Rattle.history_laws.specs.History.{Book, changed, turnedCount}
 

@@ -24,8 +24,9 @@ use Rattle.journal.specs.Journal.{Store, turnStores}
 use Rattle.journal.proofs.Each.{Each, none as nil, more}
 use Rattle.journal.proofs.Again.{put-cells, put-cells-append}
 use Rattle.calls.specs.Path.{nodeCell, renewPath, renewedRoot}
+use Rattle.side.specs.Side.{sideBytes}
 use Rattle.calls.specs.Call.{Module}
-use Rattle.calls.specs.Read.{sideBytes, pageBlock, lineMinor}
+use Rattle.calls.specs.Read.{pageBlock, lineMinor}
 use Rattle.calls.specs.Write.{lineCell}
 use Rattle.calls.specs.Turn.{lineAt, blockOf, turnedCell, leftBytes, newBlockCell, turnedRoot, lastBatch, batchesOf, storesFor, beforeLast}
 use Rattle.calls.specs.Turn.{Batch as Spec·Batch}

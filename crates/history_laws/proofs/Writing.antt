@@ -24,8 +24,9 @@ use Rattle.journal.specs.Journal.{Store, Media, storeAll, batchStores}
 use Rattle.journal.proofs.Each.{Each}
 use Rattle.journal.proofs.Laws.{batch-empty, made-all, store-none}
 use Rattle.journal.proofs.Again.{put-cells, put-cells-append}
+use Rattle.side.specs.Side.{sideBytes}
 use Rattle.calls.specs.Call.{Module, Called, mediaOf, withMedia, storing, refuse, accessRefusal}
-use Rattle.calls.specs.Read.{sideBytes, lineMinor}
+use Rattle.calls.specs.Read.{lineMinor}
 use Rattle.calls.specs.Write.{newBlock, stopLoss, lineCell, dataCell, writeBatch, writeStores}
 use Rattle.calls.specs.Write.{writtenCache, writeLoaded, writePath, writeJudged, write}
 use Rattle.calls.specs.Path.{nodeCell, renewPath, renewedRoot}

@@ -1,26 +1,25 @@
 -- Laws of the batch of a write: the data cell, the counter block, and all of it. Assumes nothing.
 use mathlib.Core.Path.{_≡_, sym, ap, ap₂, _∙_}
 use mathlib.Core.List.{List, [], _∷_, _++_}
-use Prim.Native.Nat.{ℕ, suc, _+_, _*_, _/_, _%_, _^_, _<_}
+use Prim.Native.Nat.{ℕ, suc, _+_, _%_, _<_}
 use native.Mathlib.Nat.{zero-add}
 use native.Mathlib.Omega.{arith}
 use borrow.Author.Tests.{lt-ltb, eq-eqb, ne-eqb}
 use lib.ListN.{length, take, drop, length-append}
 use lib.Seq.{take-at}
-use Rattle.words.specs.Bytes.{digits, toLe, put}
+use Rattle.words.specs.Bytes.{digits, fromLe, toLe, put}
 use Rattle.words.proofs.Digits.{length-digits}
 use Rattle.words.proofs.Parts.{put-append, put-all}
 use Rattle.words.proofs.Puts.{part-put}
 use Rattle.memory_map.specs.Map.{pageOf, cellOf}
 use Rattle.memory_map.specs.Map.Item.{node}
 use Rattle.pad.specs.Pad.{pad, xorBytes}
-use Rattle.tag.specs.Tag.{dataTag}
-use Rattle.tag.proofs.Tags.{dataTag-lt}
+use Rattle.side.specs.Side.{sideBytes}
+use Rattle.side.proofs.Laws.{side-back}
 use Rattle.control.specs.Control.{Cell, controlLength, placeAt}
 use Rattle.batch.specs.Batch.{cellWith, staged, stagedFrom}
 use Rattle.batch.proofs.Laws.{staged-none, staged-one, staged-append}
 use Rattle.calls.specs.Path.{nodeCell}
-use Rattle.calls.specs.Read.{sideBytes}
 use Rattle.call_laws.specs.Walk.{pathCells}
 use Rattle.calls.specs.Write.{lineCell}
 use Rattle.call_laws.specs.Line.{blockCells, lineCells}
@@ -28,32 +27,25 @@ use Rattle.call_laws.proofs.Line.{sealed-length, all-length}
 
 -- ---- the data cell
 
-pub tag-small : (keys b : List ℕ) (line ma mi : ℕ) {t : ℕ} → t ≡ dataTag keys b line ma mi → t < 2 ^ 56
-tag-small keys b line ma mi e = omega (arith, dataTag-lt keys b line ma mi)
-
 module _ (keys : List ℕ) (line : ℕ) (text : List ℕ) (ma mi : ℕ) (size : length text ≡ 64) where
   abbrev sealed : List ℕ
   sealed = xorBytes text (pad keys line ma mi)
 
-  pub side-digits : (t : ℕ) → t ≡ dataTag keys sealed line ma mi → toLe 8 (mi % 4 + 256 * t) ≡ sideBytes keys sealed line ma mi
-  unfolding digits
-  side-digits t e =
-      let low : (mi % 4 + 256 * t) % 256 ≡ mi % 4 = omega arith in
-      let high : (mi % 4 + 256 * t) / 256 ≡ dataTag keys sealed line ma mi = omega arith in
-      ap₂ {C = List ℕ} (λ (x y : ℕ). x ∷ toLe 7 y) low high
-
   -- the content, and the side bytes behind it
-  pub seal-bytes : (cell b : List ℕ) (t : ℕ) → length cell ≡ 72 → b ≡ sealed → t ≡ dataTag keys (take 64 (b ++ drop 64 cell)) line ma mi
-      → put (b ++ drop 64 cell) 64 (toLe 8 (mi % 4 + 256 * t)) ≡ lineCell keys line text ma mi .bytes
+  pub seal-bytes : (cell b : List ℕ) (w : ℕ) → length cell ≡ 72 → b ≡ sealed
+      → w ≡ fromLe (sideBytes keys (take 64 (b ++ drop 64 cell)) line ma mi)
+      → put (b ++ drop 64 cell) 64 (toLe 8 w) ≡ lineCell keys line text ma mi .bytes
   unfolding lineCell
-  seal-bytes cell b t l e f =
-      let w = toLe 8 (mi % 4 + 256 * t) in
-      let wide = length-digits 256 8 (mi % 4 + 256 * t) in
+  seal-bytes cell b w l e g =
+      let side = toLe 8 w in
+      let wide = length-digits 256 8 w in
       let full : length b ≡ 64 = ap length e ∙ sealed-length keys line text ma mi size in
-      ap (λ (x : List ℕ). put x 64 w) (part-put cell 0 b 64 full)
-      ∙ ap (λ (i : ℕ). put (put cell 0 b) i w) (sym (zero-add 64) ∙ ap (λ (i : ℕ). 0 + i) (sym full))
-      ∙ put-append cell 0 b w (omega arith) ∙ put-all cell (b ++ w) (rw length-append (omega arith))
-      ∙ ap₂ {C = List ℕ} _++_ e (side-digits t (f ∙ ap (λ (x : List ℕ). dataTag keys x line ma mi) (take-at b (drop 64 cell) 64 full ∙ e)))
+      ap (λ (x : List ℕ). put x 64 side) (part-put cell 0 b 64 full)
+      ∙ ap (λ (i : ℕ). put (put cell 0 b) i side) (sym (zero-add 64) ∙ ap (λ (i : ℕ). 0 + i) (sym full))
+      ∙ put-append cell 0 b side (omega arith) ∙ put-all cell (b ++ side) (rw length-append (omega arith))
+      ∙ ap₂ {C = List ℕ} _++_ e
+      (ap (toLe 8) (g ∙ ap (λ (x : List ℕ). fromLe (sideBytes keys x line ma mi)) (take-at b (drop 64 cell) 64 full ∙ e))
+      ∙ side-back keys sealed line ma mi)
 
 -- number and cell, one after the other, where the allowance goes that far
 pub line-put : (k : List ℕ) (n allowance : ℕ) (c : Cell) → length k ≡ controlLength → n < 8 → n < allowance → length (c .bytes) ≡ 72

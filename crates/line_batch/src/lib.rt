@@ -26,8 +26,8 @@ fn seal(keys: &[u8], line: usize, text: &[u8], major: u64, minor: u64, cell: &mu
         text,
         &mut cell[0..64],
     );
-    let tag = tag::data_tag(keys, &cell[0..64], line as u64, major, minor);
-    words::store64(cell, 64, minor % 4 + 256 * tag);
+    let side = side::word(keys, &cell[0..64], line as u64, major, minor);
+    words::store64(cell, 64, side);
 }
 
 // Stages the data cell of a text at a counter as cell n of a batch.

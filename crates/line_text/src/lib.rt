@@ -4,24 +4,22 @@ ghost use mathlib.Core.Bool.{cond};
 ghost use Prim.Native.Nat.{_+_, _*_, _^_, _<_, _≤_};
 ghost use lib.Dec.{eqb};
 ghost use lib.ListN.{length};
-ghost use Rattle.words.specs.Bytes.{fromLe, part};
 ghost use Rattle.pad.specs.Pad.{pad as padOf, xorBytes};
+ghost use Rattle.side.specs.Side.{sideFits};
 ghost use Rattle.answer.specs.declared.Answer.the-variants.{Done, Blank};
-ghost use Rattle.cache.specs.Cache.{cellContent};
-ghost use Rattle.calls.specs.Read.{sideBytes, blankText};
+ghost use Rattle.cache.specs.Cache.{cellBytes, cellContent};
+ghost use Rattle.calls.specs.Read.{blankText};
 use answer::Answer;
 
 // Each byte that a line never written reads as.
 const BLANK: u8 = 255;
 
-// Whether a line's data cell has the phase and the tag of a counter.
+// Whether a line's data cell has the side bytes of a counter.
 pub fn side_ok(keys: &[u8], array: &[u8], line: usize, major: u64, minor: u64) -> bool
     requires { ⌜ (length (now keys) ≡ 48) × (72 * line + 72 ≤ length (now array)) ⌝ }
-    ensures { λ r. ⌜ r ≡ eqb (fromLe (part (now (array .entry)) (72 * line + 64) 8))
-        (fromLe (sideBytes (now (keys .entry)) (cellContent (now (array .entry)) line) line major minor)) ⌝ }
+    ensures { λ r. ⌜ r ≡ sideFits (now (keys .entry)) (cellBytes (now (array .entry)) line) line major minor ⌝ }
 {
-    let tag = tag::data_tag(keys, node::in_cell(array, line), line as u64, major, minor);
-    words::load64(array, 72 * line + 64) == minor % 4 + 256 * tag
+    side::matches(keys, node::cell(array, line), line as u64, major, minor)
 }
 
 // Writes what a line reads as at a counter, once its stores are made, and answers.

@@ -16,7 +16,7 @@ use Rattle.memory_map.specs.Map.Item.{line, node}
 use Rattle.memory_map.proofs.Laws.{level-shadow, shadow-cells, cells-small, cell-within, in-map-node}
 use Rattle.slot_map.specs.Slots.{slotOf, cacheLength}
 use Rattle.slot_map.proofs.Laws.{slot-within}
-use Rattle.cache.specs.Cache.{owner, content, cellContent, withSlot, holds, current}
+use Rattle.cache.specs.Cache.{owner, content, cellBytes, cellContent, withSlot, holds, current}
 use Rattle.cache.proofs.Laws.{slot-room, content-length, cell-length}
 use Rattle.node.specs.Sized.{Sized}
 
@@ -27,6 +27,9 @@ slot-part c s = let n : 73 * s + 9 + 64 - (73 * s + 9) ≡ 64 = omega arith in a
 pub cell-part : (a : List ℕ) (n : ℕ) → take (72 * n + 64 - 72 * n) (drop (72 * n) a) ≡ cellContent a n
 unfolding cellContent
 cell-part a n = let w : 72 * n + 64 - 72 * n ≡ 64 = omega arith in ap (λ (k : ℕ). take k (drop (72 * n) a)) w
+
+pub whole-part : (a : List ℕ) (n : ℕ) → take (72 * n + 72 - 72 * n) (drop (72 * n) a) ≡ cellBytes a n
+whole-part a n = let w : 72 * n + 72 - 72 * n ≡ 72 = omega arith in ap (λ (k : ℕ). take k (drop (72 * n) a)) w
 
 pub holds-is : (c : List ℕ) (l i : ℕ) {s o : ℕ} → s ≡ slotOf l i → o ≡ owner c s → eqb o (i + 1) ≡ holds c l i
 unfolding holds

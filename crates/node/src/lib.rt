@@ -7,6 +7,7 @@ ghost use Rattle.memory_map.specs.Map.{InMap};
 ghost use Rattle.slot_map.specs.Slots.{slotOf};
 ghost use Rattle.cache.specs.Cache.{
   content,
+  cellBytes,
   cellContent,
   withSlot,
   holds as holdsNode,
@@ -30,6 +31,15 @@ pub fn in_cell(array: &[u8], n: usize) -> &[u8]
 {
     let at = 72 * n;
     &array[at..at + 64]
+}
+
+// All of a cell.
+pub fn cell(array: &[u8], n: usize) -> &[u8]
+    requires { ⌜ 72 * n + 72 ≤ length (now array) ⌝ }
+    ensures { λ r. ⌜ now r ≡ cellBytes (now (array .entry)) n ⌝ }
+{
+    let start = 72 * n;
+    &array[start..start + 72]
 }
 
 // Whether the cache has node i of level l.

@@ -3,21 +3,21 @@ use mathlib.Core.Path.{_≡_, refl, sym, ap, ap₂, _∙_}
 use mathlib.Core.Logic.{_⊎_, inl, inr}
 use mathlib.Core.Bool.{Bool, true, false, cond, false≢true}
 use mathlib.Core.List.{List}
-use Prim.Native.Nat.{ℕ, zero, suc, _+_, _*_, _<_}
+use Prim.Native.Nat.{ℕ, zero, suc, _<_}
 use lib.Dec.{eqb}
 use lib.ListN.{length}
 use borrow.Author.Tests.{eq-eqb, ne-eqb}
-use Rattle.words.specs.Bytes.{fromLe, part}
 use Rattle.memory_map.specs.Map.{lines, pageOf}
 use Rattle.pad.specs.Pad.{pad, xorBytes}
+use Rattle.side.specs.Side.{sideFits}
 use Rattle.answer.specs.declared.Answer.{Answer}
 use Rattle.answer.specs.declared.Answer.the-variants.{Done, Blank, Refused}
 use Rattle.control.specs.Control.{root}
-use Rattle.cache.specs.Cache.{cellContent}
+use Rattle.cache.specs.Cache.{cellBytes, cellContent}
 use Rattle.journal.specs.Journal.{Store}
 use Rattle.calls.specs.Path.{differs}
 use Rattle.calls.specs.Call.{Module, Called, buffers, ended, storing, pathOf, accessRefusal}
-use Rattle.calls.specs.Read.{Reading, sideBytes, sideOk, lineText, blankText, endedRead, answered}
+use Rattle.calls.specs.Read.{Reading, sideOk, lineText, blankText, endedRead, answered}
 use Rattle.calls.specs.Read.{readLoaded, readPath, readJudged, read}
 use Rattle.call_laws.specs.Walk.{pathStores, withPath}
 use Rattle.call_laws.proofs.Apart.{line-content}
@@ -27,8 +27,7 @@ use Rattle.path.proofs.Ready.{Found, fit, major-found, minor-found}
 
 -- whether a line's side bytes are those of a counter, and its text at that counter
 abbrev pub sideIs : List ℕ → List ℕ → ℕ → Line → Bool
-sideIs keys a line n =
-    eqb (fromLe (part a (72 * line + 64) 8)) (fromLe (sideBytes keys (cellContent a line) line (n .major) (n .minor)))
+sideIs keys a line n = sideFits keys (cellBytes a line) line (n .major) (n .minor)
 
 abbrev plain : List ℕ → List ℕ → ℕ → Line → List ℕ
 plain keys a line n = xorBytes (cellContent a line) (pad keys line (n .major) (n .minor))
@@ -53,11 +52,13 @@ module _ {h : ℕ} {keys a k c : List ℕ} {line : ℕ} {n : Line} (found : Foun
   abbrev whole : Reading
   whole = readPath keys line allowance m out (pathOf keys line m)
 
-  side-same : sideOk keys a d line ≡ sideIs keys a line n
+  -- whether its side bytes are those of its counter
+  abbrev fits : Bool
+  fits = sideIs keys a line n
+
+  side-same : sideOk keys a d line ≡ fits
   unfolding sideOk
-  side-same =
-      ap₂ (λ (x z : ℕ). eqb (fromLe (part a (72 * line + 64) 8)) (fromLe (sideBytes keys (cellContent a line) line x z)))
-      (major-found found) (minor-found found)
+  side-same = ap₂ (λ (x z : ℕ). sideFits keys (cellBytes a line) line x z) (major-found found) (minor-found found)
 
   text-same : lineText keys a d line ≡ plain keys a line n
   unfolding lineText
@@ -70,15 +71,16 @@ module _ {h : ℕ} {keys a k c : List ℕ} {line : ℕ} {n : Line} (found : Foun
       cond b (answered allowance m xs (Blank (length xs)) d blankText out)
       (cond t (answered allowance m xs (Done (length xs) 0) d text out) (endedRead (Refused 25 0 line 0) a k c out))
 
-  by-tests : (b t : Bool) → eqb (n .minor) 0 ≡ b → sideIs keys a line n ≡ t → whole ≡ tested b t (plain keys a line n)
+  by-tests : (b t : Bool) → eqb (n .minor) 0 ≡ b → fits ≡ t → whole ≡ tested b t (plain keys a line n)
   unfolding readPath readLoaded
   by-tests b t e f =
       ap (readPath keys line allowance m out) (found .path)
-      ∙ ap (λ (x : Bool). tested x (sideOk keys a d line) (lineText keys a d line)) (ap (λ (i : ℕ). eqb i 0) (minor-found found) ∙ e)
+      ∙ ap (λ (x : Bool). tested x (sideOk keys a d line) (lineText keys a d line))
+      (ap (λ (i : ℕ). eqb i 0) (minor-found found) ∙ e)
       ∙ ap₂ {C = Reading} (tested b) (side-same ∙ f) text-same
 
   -- 25
-  pub read-side : (n .minor ≡ 0 → ⊥) → sideIs keys a line n ≡ false → {r : Answer} → r ≡ Refused 25 0 line 0 → endedRead r a k c out ≡ whole
+  pub read-side : (n .minor ≡ 0 → ⊥) → fits ≡ false → {r : Answer} → r ≡ Refused 25 0 line 0 → endedRead r a k c out ≡ whole
   read-side some e f = rw f (sym (by-tests false false (ne-eqb (n .minor) 0 some) e))
 
   -- what a read that passes gives
@@ -91,16 +93,16 @@ module _ {h : ℕ} {keys a k c : List ℕ} {line : ℕ} {n : Line} (found : Foun
   abbrev given : Bool → Reading
   given b = answered allowance m xs (answer b (length xs)) d (text b a) out
 
-  passed : (n .minor ≡ 0) ⊎ (sideIs keys a line n ≡ true) → whole ≡ given (eqb (n .minor) 0)
+  passed : (n .minor ≡ 0) ⊎ (fits ≡ true) → whole ≡ given (eqb (n .minor) 0)
   passed o = go o (eqb (n .minor) 0) refl
     where
-      go : (n .minor ≡ 0) ⊎ (sideIs keys a line n ≡ true) → (b : Bool) → eqb (n .minor) 0 ≡ b → whole ≡ given b
+      go : (n .minor ≡ 0) ⊎ (fits ≡ true) → (b : Bool) → eqb (n .minor) 0 ≡ b → whole ≡ given b
       go o true e = by-tests true _ e refl
       go (inl z) false e = absurd (false≢true (sym e ∙ eq-eqb (n .minor) 0 z))
       go (inr f) false e = by-tests false true e f
 
   -- under the allowance: cut, or the stores made and the output written
-  module _ (o : (n .minor ≡ 0) ⊎ (sideIs keys a line n ≡ true)) {r : Answer} {a' k' c' : List ℕ}
+  module _ (o : (n .minor ≡ 0) ⊎ (fits ≡ true)) {r : Answer} {a' k' c' : List ℕ}
       (e : ended r a' k' c' ≡ storing allowance m xs (Done (length xs) 0) d) where
     abbrev z : Bool
     z = eqb (n .minor) 0

@@ -2,7 +2,6 @@
 use mathlib.Core.Path.{_≡_, ap, ap₂, sym, _∙_}
 use mathlib.Core.List.{List, [], _∷_, _++_}
 use Prim.Native.Nat.{ℕ, _+_, _*_, _%_, _^_, _<_}
-use native.Mathlib.Nat.{mod-lt}
 use native.Mathlib.Omega.{arith}
 use lib.Dec.{lit≤}
 use lib.ListN.{length, set}
@@ -14,7 +13,7 @@ use Rattle.words.proofs.Words.{below-bytes, words-put}
 use Rattle.siphash.specs.SipHash.{initial, compress, compressAll, finalize, sipHash}
 use Rattle.siphash.proofs.Messages.{compress-append, message-numbers}
 use Rattle.siphash.proofs.Ranges.{sipHash-lt}
-use Rattle.tag.specs.Tag.{nodeInput, nodeTag, dataInput, dataTag}
+use Rattle.tag.specs.Tag.{nodeInput, nodeTag, dataInput, dataHash}
 
 -- the state of key bytes 32 to 47
 abbrev keyed : List ℕ → List ℕ
@@ -41,12 +40,11 @@ node-words keys content level index hc hl hi =
     tag-numbers keys content (level ∷ index ∷ []) hc (below-cons hl (below-cons hi (below-nil (pow-pos 64))))
 
 pub data-words : (keys content : List ℕ) (line major minor : ℕ) → length content ≡ 64 → line < 2 ^ 64 → major < 2 ^ 64 → minor < 2 ^ 64
-    → finalize (compressAll (keyed keys) (wordsOf 8 8 content ++ (line ∷ major ∷ minor ∷ 0x5800_0000_0000_0000 ∷ []))) % 2 ^ 56
-    ≡ dataTag keys content line major minor
-unfolding dataTag dataInput
+    → finalize (compressAll (keyed keys) (wordsOf 8 8 content ++ (line ∷ major ∷ minor ∷ 0x5800_0000_0000_0000 ∷ [])))
+    ≡ dataHash keys content line major minor
+unfolding dataHash dataInput
 data-words keys content line major minor hc hl hj hn =
-    ap (λ (h : ℕ). h % 2 ^ 56)
-    (tag-numbers keys content (line ∷ major ∷ minor ∷ []) hc (below-cons hl (below-cons hj (below-cons hn (below-nil (pow-pos 64))))))
+    tag-numbers keys content (line ∷ major ∷ minor ∷ []) hc (below-cons hl (below-cons hj (below-cons hn (below-nil (pow-pos 64)))))
 
 -- a node whose word j is x
 pub changed-words : (keys content : List ℕ) (j x level index : ℕ) → length content ≡ 64 → j < 8
@@ -66,7 +64,3 @@ pub nodeTag-lt : (keys content : List ℕ) (level index : ℕ) → Below 256 key
 unfolding nodeTag nodeInput
 nodeTag-lt keys content level index hk hc =
     sipHash-lt _ _ (below-take 16 _ (below-drop 32 keys hk)) (below-append content _ hc (below-bytes 8 _))
-
-pub dataTag-lt : (keys content : List ℕ) (line major minor : ℕ) → dataTag keys content line major minor < 2 ^ 56
-unfolding dataTag
-dataTag-lt keys content line major minor = mod-lt _ (pow-pos 56)

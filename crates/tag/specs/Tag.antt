@@ -1,5 +1,5 @@
 -- The tags of nodes and of data cells, under key bytes 32 to 47. Assumes nothing.
-use Prim.Native.Nat.{ℕ, _%_, _^_}
+use Prim.Native.Nat.{ℕ}
 use mathlib.Core.List.{List, [], _∷_, _++_}
 use Rattle.words.specs.Bytes.{bytesOf, part}
 use Rattle.siphash.specs.SipHash.{sipHash}
@@ -15,6 +15,6 @@ nodeTag keys content level index = sipHash (part keys 32 16) (nodeInput content 
 unfoldable pub dataInput : List ℕ → ℕ → ℕ → ℕ → List ℕ
 dataInput content line major minor = content ++ bytesOf 8 (line ∷ major ∷ minor ∷ [])
 
--- the first 7 bytes of the hash
-unfoldable pub dataTag : List ℕ → List ℕ → ℕ → ℕ → ℕ → ℕ
-dataTag keys content line major minor = sipHash (part keys 32 16) (dataInput content line major minor) % 2 ^ 56
+-- the hash that a data cell's tag is taken from
+unfoldable pub dataHash : List ℕ → List ℕ → ℕ → ℕ → ℕ → ℕ
+dataHash keys content line major minor = sipHash (part keys 32 16) (dataInput content line major minor)

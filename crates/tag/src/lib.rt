@@ -7,7 +7,7 @@ ghost use lib.Dec.{eqb};
 ghost use lib.ListN.{length};
 ghost use Rattle.words.specs.Bytes.{fromLe, toLe, part, put, wordsOf};
 ghost use Rattle.siphash.specs.SipHash.{initial, compressAll, finalize as finalized};
-ghost use Rattle.tag.specs.Tag.{nodeTag, dataTag};
+ghost use Rattle.tag.specs.Tag.{nodeTag, dataHash};
 use siphash::compress;
 use siphash::finalize;
 use siphash_message::absorb;
@@ -47,10 +47,10 @@ pub fn changed_tag(keys: &[u8], content: &[u8], j: usize, x: u64, level: u64, in
     finalize(compress(w, 0x5000_0000_0000_0000))
 }
 
-// The tag of a data cell's content, 64 bytes, under keys of 48 bytes.
-pub fn data_tag(keys: &[u8], content: &[u8], line: u64, major: u64, minor: u64) -> u64
+// The hash of a data cell's content, 64 bytes, under keys of 48 bytes.
+pub fn data_hash(keys: &[u8], content: &[u8], line: u64, major: u64, minor: u64) -> u64
     requires { ⌜ (length (now keys) ≡ 48) × (length (now content) ≡ 64) ⌝ }
-    ensures { λ r. ⌜ r ≡ dataTag (now (keys .entry)) (now (content .entry)) line major minor ⌝ }
+    ensures { λ r. ⌜ r ≡ dataHash (now (keys .entry)) (now (content .entry)) line major minor ⌝ }
 {
-    digest(keys, content, line, major, minor, 0x5800_0000_0000_0000) % 0x100_0000_0000_0000
+    digest(keys, content, line, major, minor, 0x5800_0000_0000_0000)
 }

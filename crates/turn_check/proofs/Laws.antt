@@ -2,24 +2,24 @@
 use mathlib.Core.Path.{_≡_, refl, sym, ap, ap₂, _∙_}
 use mathlib.Core.Bool.{Bool, true, false, _&&_, not, cond}
 use mathlib.Core.List.{List, [], _∷_}
-use Prim.Native.Nat.{ℕ, _+_, _*_, _^_, _<_}
+use Prim.Native.Nat.{ℕ, _^_, _<_}
 use native.Mathlib.Omega.{arith}
 use borrow.Author.Tests.{eq-eqb, ne-eqb}
 use lib.Dec.{eqb}
 use lib.ListN.{getD, drop}
 use lib.Seq.{drop-cons}
-use Rattle.words.specs.Bytes.{fromLe, part}
 use Rattle.bits.specs.Bits.{setBits}
 use Rattle.bits.proofs.Climbs.{Climbs, end, up}
 use Rattle.bits.proofs.Laws.{bits-some, bits-none, bits-climb}
 use Rattle.memory_map.specs.Map.{pageOf, placeOf}
 use Rattle.slot_map.specs.Slots.{slotOf}
 use Rattle.counter.specs.Counter.{major, minors, minor, writtenFrom}
+use Rattle.side.specs.Side.{sideFits}
 use Rattle.control.specs.Control.{isOpen, turnMask}
-use Rattle.cache.specs.Cache.{content, cellContent}
+use Rattle.cache.specs.Cache.{content, cellBytes}
 use Rattle.cache.specs.declared.Found.{Found}
 use Rattle.cache.specs.declared.Found.the-variants.{Nothing, At}
-use Rattle.calls.specs.Read.{sideBytes, lineMinor, sideOk}
+use Rattle.calls.specs.Read.{lineMinor, sideOk}
 use Rattle.calls.specs.Turn.{lineAt, blockOf, turnPlaces, badLine}
 use Rattle.turn_check.specs.FirstBad.{lineFits, firstBad}
 
@@ -42,7 +42,7 @@ module _ (keys a : List ℕ) (p ma : ℕ) (ms : List ℕ) where
         (ap (lineFits keys a (lineAt p j) ma) (sym its) ∙ e)
 
     abbrev side : Bool
-    side = eqb (fromLe (part a (72 * lineAt p j + 64) 8)) (fromLe (sideBytes keys (cellContent a (lineAt p j)) (lineAt p j) ma mi))
+    side = sideFits keys (cellBytes a (lineAt p j)) (lineAt p j) ma mi
 
     pub bad-zero : mi ≡ 0 → At (lineAt p j) ≡ firstBad keys a p ma ms (setBits x)
     bad-zero z = sym (by-lowest false (ap (λ (b : Bool). not b && side) (eq-eqb mi 0 z)))
@@ -56,7 +56,7 @@ module _ (keys a : List ℕ) (p ma : ℕ) (ms : List ℕ) where
 
       pub bad-later : {js : List ℕ} → side ≡ true → js ≡ drop 1 (setBits x)
           → firstBad keys a p ma ms (setBits x) ≡ firstBad keys a p ma ms js
-      bad-later e f = by-lowest true (side-tells true e) ∙ ap (firstBad keys a p ma ms) (sym f)
+      bad-later e g = by-lowest true (side-tells true e) ∙ ap (firstBad keys a p ma ms) (sym g)
 
 -- ---- of a cache in which the path of page p is loaded
 
@@ -85,7 +85,7 @@ module _ (keys a c : List ℕ) (p : ℕ) {ma : ℕ} {ms : List ℕ} (is-major : 
   unfolding badLine firstBad
   bad-same [] end = refl
   bad-same (j ∷ js) (up q h rest) =
-      ap₂ {C = Found} (λ (b : Bool) (f : Found). cond b f (At (lineAt p j))) (fits-same j h) (bad-same js rest)
+      ap₂ {C = Found} (λ (b : Bool) (r : Found). cond b r (At (lineAt p j))) (fits-same j h) (bad-same js rest)
 
   pub bad-of : (k : List ℕ) (x : ℕ) → setBits x ≡ turnPlaces k c p
       → firstBad keys a p ma ms (setBits x) ≡ badLine keys a c p (turnPlaces k c p)

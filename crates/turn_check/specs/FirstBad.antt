@@ -1,20 +1,18 @@
 -- The first of a page's lines that does not fit its counter, by the page's major and minors. Assumes nothing.
-use Prim.Native.Nat.{ℕ, _+_, _*_}
+use Prim.Native.Nat.{ℕ}
 use mathlib.Core.Bool.{Bool, _&&_, not, cond}
 use mathlib.Core.List.{List, [], _∷_}
 use lib.Dec.{eqb}
 use lib.ListN.{getD}
-use Rattle.words.specs.Bytes.{fromLe, part}
-use Rattle.cache.specs.Cache.{cellContent}
+use Rattle.side.specs.Side.{sideFits}
+use Rattle.cache.specs.Cache.{cellBytes}
 use Rattle.cache.specs.declared.Found.{Found}
 use Rattle.cache.specs.declared.Found.the-variants.{Nothing, At}
-use Rattle.calls.specs.Read.{sideBytes}
 use Rattle.calls.specs.Turn.{lineAt}
 
--- whether a line is written, and its data cell has the phase and the tag of its counter
+-- whether a line is written, and its data cell has the side bytes of its counter
 abbrev pub lineFits : List ℕ → List ℕ → ℕ → ℕ → ℕ → Bool
-lineFits keys a n ma mi =
-    not (eqb mi 0) && eqb (fromLe (part a (72 * n + 64) 8)) (fromLe (sideBytes keys (cellContent a n) n ma mi))
+lineFits keys a n ma mi = not (eqb mi 0) && sideFits keys (cellBytes a n) n ma mi
 
 -- of page p, with its major and its minors, the lines at these places
 unfoldable pub firstBad : List ℕ → List ℕ → ℕ → ℕ → List ℕ → List ℕ → Found

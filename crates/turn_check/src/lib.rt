@@ -27,7 +27,7 @@ fn wide(x: u8) -> u64
     x as u64
 }
 
-// The first of these lines of page p whose minor is 0, or whose data cell has another phase or tag.
+// The first of these lines of page p whose minor is 0, or whose data cell has other side bytes.
 pub fn bad_line(keys: &[u8], array: &[u8], p: usize, major: u64, minors: &[u8], mask: u64) -> Found
     requires { ⌜ (length (now keys) ≡ 48) × ((72 * (64 * p + 64) ≤ length (now array)) × (length (now minors) ≡ 64)) ⌝ }
     ensures { λ r. ⌜ r ≡ firstBad (now (keys .entry)) (now (array .entry)) p major (now (minors .entry)) (setBits mask) ⌝ }

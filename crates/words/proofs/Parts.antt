@@ -6,10 +6,10 @@ use native.Mathlib.Nat.{mul-comm, zero-add, add-zero, add-suc, suc-add}
 use native.Mathlib.Numerals.{towards-suc, add-one, add-two, add-three}
 use native.Mathlib.Omega.{arith}
 use lib.ListN.{length, take, drop, getD, set, length-take, length-drop, length-append, take-append-drop, drop-of-length-le}
-use lib.ListN.{replicate, length-replicate, replicate-append-replicate}
+use lib.ListN.{replicate, length-replicate, getD-replicate, replicate-append-replicate}
 use lib.Dec.{lit<}
 use lib.Seq.{drop-cons, take-nil, take-add, take-take, drop-drop, sets, sets-eq, length-sets, length-take-le, take-all, take-at, drop-at}
-use lib.Seq.{take-append-le, drop-append-le, drop-append-add}
+use lib.Seq.{take-append-le, drop-append-le, drop-append-add, getD-take, getD-drop, ext-getD}
 use Rattle.words.specs.Bytes.{number, digits, fromLe, toLe, part, put}
 use Rattle.words.proofs.Digits.{Below, below-append, below-take, below-drop, length-digits, number-append, number-take, number-drop}
 use Rattle.words.proofs.Digits.{digits-cut, digits-append, digits-exact}
@@ -187,7 +187,16 @@ copy-next d to s from n hd hs =
     ∙ ap (put (put d to (part s from n)) (to + n)) (sym (part-suc s (from + n) 0 hs))
     ∙ copy-more d to s from n 1 (omega arith) (omega arith)
 
--- one byte more of a run of equal ones
+-- a part of a run of equal ones
+pub part-replicate : (b n at m : ℕ) → at + m ≤ n → part (replicate n b) at m ≡ replicate m b
+part-replicate b n at m h =
+    let whole = length-replicate {A = ℕ} n b in
+    let size = length-part (replicate n b) at m (omega arith) in
+    ext-getD 0 (part (replicate n b) at m) (replicate m b) (size ∙ sym (length-replicate m b))
+    (λ i q. getD-take m (drop at (replicate n b)) i 0 (omega (arith, q, size)) ∙ getD-drop at (replicate n b) i 0
+    ∙ getD-replicate n (at + i) b 0 (omega (arith, q, size)) ∙ sym (getD-replicate m i b 0 (omega (arith, q, size))))
+
+-- one byte more of such a run
 pub fill-next : (s : List ℕ) (at n b : ℕ) → at + n < length s → set (put s at (replicate n b)) (at + n) b ≡ put s at (replicate (n + 1) b)
 fill-next s at n b h =
     let l = length-replicate {A = ℕ} n b in

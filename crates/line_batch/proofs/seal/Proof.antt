@@ -1,8 +1,7 @@
 -- `line_batch::seal` meets its contract. Assumes nothing.
 use mathlib.Core.Path.{_∙_}
-use native.Mathlib.Omega.{arith}
 use borrow.Author.Needs.{needs}
-use Rattle.line_batch.proofs.Laws.{tag-small, seal-bytes}
+use Rattle.line_batch.proofs.Laws.{seal-bytes}
 use Rattle.line_batch.proofs.seal.Statement.{statement}
 use Rattle.line_batch.proofs.seal.Tie as tie
 
@@ -24,27 +23,21 @@ part-apply-end c = search needs
 apply-requires : tie.Need-apply-requires
 apply-requires c κs = search needs
 
-sub-data-tag : tie.Need-sub-data-tag
-sub-data-tag c = search needs
+sub-word : tie.Need-sub-word
+sub-word c = search needs
 
-part-data-tag-start : tie.Need-part-data-tag-start
-part-data-tag-start c = search needs
+part-word-start : tie.Need-part-word-start
+part-word-start c = search needs
 
-part-data-tag-end : tie.Need-part-data-tag-end
-part-data-tag-end c = search needs
+part-word-end : tie.Need-part-word-end
+part-word-end c = search needs
 
-data-tag-requires : tie.Need-data-tag-requires
-data-tag-requires c κs = search needs
+word-requires : tie.Need-word-requires
+word-requires c κs = search needs
 
--- the start, seen from the tag
-abbrev start : tie.After-data-tag → tie.Start
+-- the start, seen from the side bytes
+abbrev start : tie.After-word → tie.Start
 start c = c .before .before .before .before .before .before .before .before .before .before
-
-mul-store64 : tie.Need-mul-store64
-mul-store64 c = omega (arith, tag-small _ _ _ _ _ (c .before .data-tag .ensures))
-
-add-store64 : tie.Need-add-store64
-add-store64 c = omega (arith, tag-small _ _ _ _ _ (c .before .data-tag .ensures))
 
 store64-requires : tie.Need-store64-requires
 store64-requires c κs = search needs
@@ -54,14 +47,14 @@ same-length c = search needs
 
 returns : tie.Need-returns
 returns c =
-    let tag = c .before .before .before .before in
-    let call = tag .before .before .before .before .before in
-    let s = start tag in
+    let side = c .before .before .before .before in
+    let call = side .before .before .before .before .before in
+    let s = start side in
     let a = s .args in
     c .before .before .store64 .ensures
     ∙ seal-bytes (a .keys .now) (a .line) (a .text .now) (a .major) (a .minor) (s .pre .1 .1 .0) (a .cell .now)
-    (call .apply .last .1 .1 .1 .1 .1 .0) (tag .data-tag .result)
-    (s .pre .1 .1 .1 .1) (call .apply .ensures) (tag .data-tag .ensures)
+    (call .apply .last .1 .1 .1 .1 .1 .0) (side .word .result)
+    (s .pre .1 .1 .1 .1) (call .apply .ensures) (side .word .ensures)
 
 pub seal-spec : {M : Type 1} → statement M
 seal-spec =
@@ -73,12 +66,10 @@ seal-spec =
     part-apply-start
     part-apply-end
     apply-requires
-    sub-data-tag
-    part-data-tag-start
-    part-data-tag-end
-    data-tag-requires
-    mul-store64
-    add-store64
+    sub-word
+    part-word-start
+    part-word-end
+    word-requires
     store64-requires
     same-length
     returns)
