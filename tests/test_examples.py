@@ -80,13 +80,17 @@ def written(start):
                        literal(after.cache), literal(after.array[72 * 256:72 * 257])), "seen start")
 
 
+def rebuilding(array, control):
+    return "rebuildBlocks 1 (upTo 48 0) (media (%s) (%s))" % (array, control)
+
+
 def rebuilt(start):
     """What a recovery after a power failure rebuilds: counter blocks, then nodes."""
     answer, module = model.recover_call(KEYS, 0, start._replace(cache=bytes(len(start.cache))))
     assert answer == model.Answer("done", 0, 0, 3, 0)
     owners = [slot.owner for slot in model.slots_of_cache(module.cache)]
     blocks = literal(module.cache[:4 * 73] + bytes(len(module.cache) - 4 * 73))
-    return theorem("blocks", "rebuildBlocks 1 (start .control) (start .array) 0 (%s) (emptyCache 1) 0" % octets(owners[:4]),
+    return theorem("blocks", "%s 0 (%s) (emptyCache 1) 0" % (rebuilding("start .array", "start .control"), octets(owners[:4])),
                    "soFar (%s) 3" % blocks, "start") + theorem(
         "nodes", "rebuildNodes 1 (upTo 48 0) (start .array) 4 (%s)\n    (%s)" % (octets(owners[4:]), blocks),
         literal(module.cache), "start")
@@ -167,7 +171,7 @@ def rebuilt_open(start):
     assert answer.number == 29
     block = model.array_node(1, start.array, 0, 0)
     slot = model.number8(1) + bytes([1]) + block
-    return theorem("open-blocks", "rebuildBlocks 1 openControl (start .array) 0 (1 ∷ 0 ∷ 0 ∷ 0 ∷ []) (emptyCache 1) 0",
+    return theorem("open-blocks", "%s 0 (1 ∷ 0 ∷ 0 ∷ 0 ∷ []) (emptyCache 1) 0" % rebuilding("start .array", "openControl"),
                    "soFar (%s) 0" % literal(slot + bytes(len(start.cache) - 73)), "start openControl")
 
 
@@ -188,8 +192,8 @@ def failing(start):
         array[shadow] = owners[1]
         answer, _ = model.recover_call(KEYS, UNLIMITED, start._replace(array=bytes(array), control=control))
         assert answer == model.Answer("refused", *wanted)
-        end = "%s %d" % ({28: "badPhase", 32: "badMinor"}[answer.number], answer.first)
-        calls.append("rebuildBlocks 1 (start .control) (%s) 0 (%s) (emptyCache 1) 0" % (term, octets(owners)))
+        end = "failed %d %d" % (answer.number, answer.first)
+        calls.append("%s\n    0 (%s) (emptyCache 1) 0" % (rebuilding(term, "start .control"), octets(owners)))
         ends.append(end)
         answers.append("(recoverRebuilt (upTo 48 0) %d start [] (%s)) .answer" % (answer.stores, end))
         told.append("Refused %d %d %d %d" % answer[1:])
@@ -233,11 +237,12 @@ use Rattle.answer.specs.declared.Answer.{Answer}
 use Rattle.answer.specs.declared.Answer.the-variants.{Done, Blank, Cut, Refused}
 use Rattle.cache.specs.Cache.{emptyCache}
 use Rattle.control.specs.Control.{Cell}
+use Rattle.journal.specs.Journal.{media}
 use Rattle.calls.specs.Call.{Module, Called, accessRefusal}
 use Rattle.calls.specs.Read.{Reading, read}
 use Rattle.calls.specs.Write.{write}
 use Rattle.calls.specs.Turn.{Batch, turnRefusal, turnFront, turnBatches, batchesOf, beforeLast}
-use Rattle.calls.specs.Recovery.{soFar, badPhase, badMinor, rebuildBlocks, rebuildNodes, recoverRebuilt}
+use Rattle.calls.specs.Recovery.{soFar, failed, rebuildBlocks, rebuildNodes, recoverRebuilt}
 use Rattle.calls.specs.DirtyPages.{dirtyPages}
 use Rattle.calls.proofs.Run.{run}
 use Rattle.calls.proofs.Sparse.{sparse, upTo}

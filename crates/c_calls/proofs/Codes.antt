@@ -1,7 +1,8 @@
 -- Every code of an answer fits the C side's number. Assumes nothing.
+use mathlib.Core.Logic.{inl, inr}
 use mathlib.Core.Bool.{Bool, true, false, cond}
-use mathlib.Core.List.{List, [], _∷_}
-use Prim.Native.Nat.{ℕ, zero, suc, _+_, _-_, _^_, _≤_, zero-le}
+use mathlib.Core.List.{List}
+use Prim.Native.Nat.{ℕ, zero, suc, _+_, _-_, _^_, _≤_}
 use native.Mathlib.Omega.{arith}
 use lib.Dec.{eqb, lit≤}
 use lib.ListN.{length}
@@ -16,14 +17,16 @@ use Rattle.tag.specs.Tag.{nodeTag}
 use Rattle.cache.specs.Cache.{current}
 use Rattle.journal.specs.Journal.{Store, batchStores, isCut, pendingStores}
 use Rattle.calls.specs.Path.{Loaded, loaded, differs}
-use Rattle.calls.specs.Call.{Module, Called, judged, accessRefusal, refuse, storing, pathOf}
+use Rattle.calls.specs.Call.{Module, Called, mediaOf, accessRefusal, refuse, storing, pathOf}
 use Rattle.calls.specs.Read.{Reading, lineMinor, sideOk, answered, readLoaded, readPath, readJudged, read}
 use Rattle.calls.specs.Write.{writeLoaded, writePath, writeJudged, write}
 use Rattle.calls.specs.Turn.{turnRefusal, blockOf, pagePath, turnChecked, turnLoaded, turnPath, turnJudged, turn}
-use Rattle.calls.specs.Recovery.{Forwarded, soFar, badPhase, badMinor, refusalOf, recoveryRefusal, recoverRoot}
+use Rattle.calls.specs.Recovery.{Forwarded, soFar, failed, sourceOf, recoveryRefusal, recoverRoot}
 use Rattle.calls.specs.Recovery.{recoverRebuilt, recoverShadow, recoverJudged, recover}
 use Rattle.calls.specs.Format.{formatRefusal, formatted, format}
 use Rattle.calls.specs.DirtyPages.{listRefusal, listJudged, dirtyPages}
+use Rattle.call_laws.proofs.Judged.{judged-most}
+use Rattle.call_laws.proofs.Steps.{EndIs, StepRefusal, line-step, blocks-end}
 
 -- no refusal has a higher number
 abbrev pub lastRefusal : ℕ
@@ -62,41 +65,28 @@ storing-fits allowance m xs answer c p = either (isCut allowance xs) (cut-fits _
 
 -- ---- refusals from the input and the state
 
-abbrev Small : List (Bool × ℕ) → Type 0
-Small [] = Unit {0}
-Small (x ∷ xs) = (x .1 ≤ lastRefusal) × Small xs
-
-pick : (b : Bool) (x y : ℕ) → x ≤ lastRefusal → y ≤ lastRefusal → cond b x y ≤ lastRefusal
-pick true x y p q = p
-pick false x y p q = q
-
-judged-small : (xs : List (Bool × ℕ)) → Small xs → judged xs ≤ lastRefusal
-unfolding judged
-judged-small [] s = zero-le
-judged-small (x ∷ xs) s = pick (x .0) (x .1) (judged xs) (s .0) (judged-small xs (s .1))
-
 access-small : (keys : List ℕ) (line : ℕ) (b : List ℕ) (m : Module) → accessRefusal keys line b m ≤ lastRefusal
 unfolding accessRefusal
 access-small keys line b m =
-    judged-small _
+    judged-most lastRefusal _
     (lit≤ tt, (lit≤ tt, (lit≤ tt, (lit≤ tt, (lit≤ tt, (lit≤ tt, (lit≤ tt, (lit≤ tt, (lit≤ tt, (lit≤ tt, tt))))))))))
 
 turn-small : (keys : List ℕ) (p : ℕ) (m : Module) → turnRefusal keys p m ≤ lastRefusal
 unfolding turnRefusal
 turn-small keys p m =
-    judged-small _ (lit≤ tt, (lit≤ tt, (lit≤ tt, (lit≤ tt, (lit≤ tt, (lit≤ tt, (lit≤ tt, (lit≤ tt, (lit≤ tt, tt)))))))))
+    judged-most lastRefusal _ (lit≤ tt, (lit≤ tt, (lit≤ tt, (lit≤ tt, (lit≤ tt, (lit≤ tt, (lit≤ tt, (lit≤ tt, (lit≤ tt, tt)))))))))
 
 recovery-small : (keys : List ℕ) (m : Module) → recoveryRefusal keys m ≤ lastRefusal
 unfolding recoveryRefusal
-recovery-small keys m = judged-small _ (lit≤ tt, (lit≤ tt, (lit≤ tt, (lit≤ tt, (lit≤ tt, tt)))))
+recovery-small keys m = judged-most lastRefusal _ (lit≤ tt, (lit≤ tt, (lit≤ tt, (lit≤ tt, (lit≤ tt, tt)))))
 
 format-small : (keys : List ℕ) (h : ℕ) (m : Module) → formatRefusal keys h m ≤ lastRefusal
 unfolding formatRefusal
-format-small keys h m = judged-small _ (lit≤ tt, (lit≤ tt, (lit≤ tt, (lit≤ tt, (lit≤ tt, tt)))))
+format-small keys h m = judged-most lastRefusal _ (lit≤ tt, (lit≤ tt, (lit≤ tt, (lit≤ tt, (lit≤ tt, tt)))))
 
 list-refusal-small : (control cache out : List ℕ) → listRefusal control cache out ≤ lastRefusal
 unfolding listRefusal
-list-refusal-small control cache out = judged-small _ (lit≤ tt, (lit≤ tt, (lit≤ tt, (lit≤ tt, (lit≤ tt, tt)))))
+list-refusal-small control cache out = judged-most lastRefusal _ (lit≤ tt, (lit≤ tt, (lit≤ tt, (lit≤ tt, (lit≤ tt, tt)))))
 
 -- ---- the calls
 
@@ -159,6 +149,11 @@ module _ (keys : List ℕ) (p allowance : ℕ) (m : Module) where
   pub turn-fits : Fits (turn keys p allowance m)
   turn-fits = turn-judged (turnRefusal keys p m) (turn-small keys p m)
 
+step-small : {k : ℕ} → StepRefusal k → k ≤ lastRefusal
+unfolding StepRefusal
+step-small (inl e) = omega arith
+step-small (inr e) = omega arith
+
 module _ (keys : List ℕ) where
   recover-root : (k : ℕ) (m : Module) (sum : ℕ) (c : List ℕ) → Fits (recoverRoot keys k m sum c)
   unfolding recoverRoot
@@ -167,16 +162,18 @@ module _ (keys : List ℕ) where
       either (eqb (nodeTag keys (current h (m .array) c h 0) h 0) (root (m .control))) (done-fits k sum _)
       (refused-fits 29 k 0 0 m (lit≤ tt))
 
-  recover-rebuilt : (k : ℕ) (m : Module) (os : List ℕ) (r : Forwarded) → Fits (recoverRebuilt keys k m os r)
-  unfolding recoverRebuilt refusalOf
-  recover-rebuilt k m os (soFar d sum) = recover-root k m sum _
-  recover-rebuilt k m os (badPhase n) = refused-fits (refusalOf (badPhase n)) k n 0 m (lit≤ tt)
-  recover-rebuilt k m os (badMinor n) = refused-fits (refusalOf (badMinor n)) k n 0 m (lit≤ tt)
+  recover-rebuilt : (k : ℕ) (m : Module) (os : List ℕ) (r : Forwarded) → EndIs StepRefusal r
+      → Fits (recoverRebuilt keys k m os r)
+  unfolding recoverRebuilt EndIs
+  recover-rebuilt k m os (soFar d sum) e = recover-root k m sum _
+  recover-rebuilt k m os (failed n x) e = refused-fits n k x 0 m (step-small e)
 
   recover-shadow : (k : ℕ) (m : Module) (os : List ℕ) (f : Found) → Fits (recoverShadow keys k m os f)
   unfolding recoverShadow
   recover-shadow k m os (At s) = refused-fits 27 k s 0 m (lit≤ tt)
-  recover-shadow k m os Nothing = recover-rebuilt k m os _
+  recover-shadow k m os Nothing =
+      recover-rebuilt k m os _
+      (blocks-end StepRefusal (depth (m .control)) keys (mediaOf m) (λ ma. line-step (sourceOf keys (mediaOf m) ma)) _ _ _ _)
 
   recover-judged : (allowance : ℕ) (m : Module) (n : ℕ) → n ≤ lastRefusal → Fits (recoverJudged n keys allowance m)
   unfolding recoverJudged

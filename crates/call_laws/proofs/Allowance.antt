@@ -28,7 +28,7 @@ use Rattle.calls.specs.Write.{writeStores, writtenCache, writeLoaded, writePath
 use Rattle.calls.specs.Turn.{turnRefusal, blockOf, turnPlaces, badLine, turnBatches, storesFor, turnedCache, turnChecked}
 use Rattle.calls.specs.Turn.{turnLoaded, turnPath}
 use Rattle.calls.specs.Turn.{pagePath, turnJudged, turn}
-use Rattle.calls.specs.Recovery.{Forwarded, soFar, badPhase, badMinor, refusalOf, rebuildBlocks, rebuildNodes, recoveryRefusal}
+use Rattle.calls.specs.Recovery.{Forwarded, soFar, failed, rebuildBlocks, rebuildNodes, recoveryRefusal}
 use Rattle.calls.specs.Recovery.{recoverRoot, recoverRebuilt, recoverShadow, recoverMedia, recoverJudged, recover}
 
 -- a call as a function of its allowance
@@ -208,8 +208,7 @@ module _ (keys : List ℕ) (k : ℕ) (m : Module) where
 
   tells-rebuilt : (os : List ℕ) (r : Forwarded) → Tells (recoverRebuilt keys k m os r)
   unfolding recoverRebuilt recoverRoot
-  tells-rebuilt os (badPhase n) = tells-refused (refusalOf (badPhase n)) n
-  tells-rebuilt os (badMinor n) = tells-refused (refusalOf (badMinor n)) n
+  tells-rebuilt os (failed n x) = tells-refused n x
   tells-rebuilt os (soFar d sum) =
       let h = depth (m .control) in
       let c = rebuildNodes h keys (m .array) 4 (drop 4 os) d in
@@ -220,7 +219,7 @@ module _ (keys : List ℕ) (k : ℕ) (m : Module) where
   unfolding recoverShadow
   tells-shadow os (At s) = tells-refused 27 s
   tells-shadow os Nothing =
-      tells-rebuilt os (rebuildBlocks (depth (m .control)) (m .control) (m .array) 0 (take 4 os) (emptyCache (depth (m .control))) 0)
+      tells-rebuilt os (rebuildBlocks (depth (m .control)) keys (mediaOf m) 0 (take 4 os) (emptyCache (depth (m .control))) 0)
 
   tells-media : Tells (recoverMedia keys k m)
   tells-media =

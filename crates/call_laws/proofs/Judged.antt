@@ -2,7 +2,7 @@
 use mathlib.Core.Path.{_≡_, refl, ap}
 use mathlib.Core.Bool.{Bool, true, false, not, _&&_, cond, and-eq-true-iff}
 use mathlib.Core.List.{List, [], _∷_, _++_}
-use Prim.Native.Nat.{ℕ, suc, _≤_, _<_}
+use Prim.Native.Nat.{ℕ, suc, _≤_, _<_, zero-le}
 use native.Mathlib.Omega.{arith}
 use lib.Dec.{eqb, leb}
 use lib.ListN.{length}
@@ -58,6 +58,20 @@ judged-front (x ∷ xs) ys {n} e p = go (x .0) e (λ f. judged-front xs ys f p)
     go : (t : Bool) → n ≡ cond t (x .1) (judged xs) → (n ≡ judged xs → n ≡ judged (xs ++ ys)) → n ≡ cond t (x .1) (judged (xs ++ ys))
     go true q f = q
     go false q f = f q
+
+-- none of the numbers is above n
+abbrev pub Most : ℕ → List (Bool × ℕ) → Type 0
+Most n [] = Unit {0}
+Most n (x ∷ xs) = (x .1 ≤ n) × Most n xs
+
+pub judged-most : (n : ℕ) (xs : List (Bool × ℕ)) → Most n xs → judged xs ≤ n
+unfolding judged
+judged-most n [] s = zero-le
+judged-most n (x ∷ xs) s = go (x .0) (judged-most n xs (s .1))
+  where
+    go : (t : Bool) → judged xs ≤ n → cond t (x .1) (judged xs) ≤ n
+    go true q = s .0
+    go false q = q
 
 -- lengths that fit a depth
 pub record Sized (h : ℕ) (m : Module) : Type 0 where

@@ -10,6 +10,7 @@ pub mod Loading
 pub mod Loads
 pub mod Rebuilt
 pub mod Staged
+pub mod Steps
 pub mod Storing
 pub mod Tags
 pub mod Turn

@@ -5,10 +5,9 @@ use mathlib.Core.List.{List, [], _∷_}
 use Prim.Native.Nat.{ℕ, zero, suc, _+_, _-_, _*_, _/_, _≤_, _<_}
 use native.Mathlib.Omega.{arith}
 use lib.Dec.{eqb, lit<}
-use lib.ListN.{length, take, drop, getD, length-take, length-drop}
+use lib.ListN.{length, take, drop, length-take, length-drop}
 use Rattle.words.specs.Bytes.{part}
 use Rattle.words.proofs.Digits.{Below}
-use Rattle.words.proofs.Puts.{getD-part}
 use Rattle.memory_map.specs.Map.{cells, slots, cellOf}
 use Rattle.slot_map.specs.Slots.{cacheLength, levelOf}
 use Rattle.memory_map.specs.Map.Item.{node}
@@ -16,17 +15,17 @@ use Rattle.counter.specs.Counter.{major, minors, counterBlock}
 use Rattle.counter.proofs.Laws.{length-counterBlock, below-counterBlock}
 use Rattle.tag.specs.Tag.{nodeTag}
 use Rattle.control.specs.Control.{depth, root}
-use Rattle.control.proofs.Laws.{valid-parts}
+use Rattle.control.proofs.Laws.{same-depth, valid-parts}
 use Rattle.cache.specs.declared.Found.{Found}
 use Rattle.cache.specs.declared.Found.the-variants.{Nothing, At}
 use Rattle.cache.specs.Cache.{from, withSlot, emptyCache, cellContent, shadowOwners, badSlot, current}
 use Rattle.cache.proofs.Laws.{length-with, below-with, length-empty, below-empty}
-use Rattle.journal.specs.Journal.{Store, storeAll, made, isCut, pendingStores}
+use Rattle.journal.specs.Journal.{Store, Media, storeAll, made, isCut, pendingStores}
 use Rattle.journal.proofs.Each.{Each, each-take}
 use Rattle.journal.proofs.Kept.{Within, within-pending, stores-front}
 use Rattle.answer.specs.declared.Answer.the-variants.{Done, Cut, Refused}
 use Rattle.calls.specs.Call.{Module, Called, mediaOf, withMedia}
-use Rattle.calls.specs.Recovery.{Forwarded, soFar, badPhase, badMinor, onward, forwardPage, rebuildBlock, rebuildSlot, rebuildBlocks}
+use Rattle.calls.specs.Recovery.{Forwarded, soFar, failed, onward, forwardPage, sourceOf, rebuildBlock, rebuildSlot, rebuildBlocks}
 use Rattle.calls.specs.Recovery.{rebuildNode, rebuildNodes, recoverRoot, recoverRebuilt, recoverShadow, recoverMedia, recoverJudged}
 use Rattle.calls.specs.Recovery.{recover, recoveryRefusal}
 use Rattle.call_laws.proofs.Judged.{Opened, recovery-opened, head-of}
@@ -52,48 +51,50 @@ empty-plain h = record { sized = length-empty h; bytes = below-empty h }
 
 PlainIf : ℕ → Forwarded → Type 0
 PlainIf h (soFar c t) = Plain h c
-PlainIf h (badPhase n) = Unit {0}
-PlainIf h (badMinor n) = Unit {0}
+PlainIf h (failed k n) = Unit {0}
 
 onward-plain : (h : ℕ) (r : Forwarded) (next : List ℕ → ℕ → Forwarded)
     → ((c : List ℕ) (t : ℕ) → r ≡ soFar c t → PlainIf h (next c t)) → PlainIf h (onward r next)
 unfolding onward PlainIf
 onward-plain h (soFar c t) next keeps = keeps c t refl
-onward-plain h (badPhase n) next keeps = tt
-onward-plain h (badMinor n) next keeps = tt
+onward-plain h (failed k n) next keeps = tt
 
-module _ (h : ℕ) (k a : List ℕ) where
-  block-plain : (c : List ℕ) (sum s p : ℕ) → s < slots h → Plain h c → PlainIf h (rebuildBlock h k a c sum s p)
+module _ (h : ℕ) (keys : List ℕ) (m : Media) where
+  abbrev a : List ℕ
+  a = m .array
+
+  block-plain : (c : List ℕ) (sum s p : ℕ) → s < slots h → Plain h c → PlainIf h (rebuildBlock h keys m c sum s p)
   unfolding rebuildBlock PlainIf
   block-plain c sum s p within plain =
       let b = cellContent a (cellOf h (node 0 p)) in
-      onward-plain h (forwardPage k a p (minors b) sum) (λ ms t. soFar (withSlot c s (suc p) 1 (counterBlock (major b) ms)) t)
+      onward-plain h (forwardPage (m .control) (sourceOf keys m (major b)) p (minors b) sum)
+      (λ ms t. soFar (withSlot c s (suc p) 1 (counterBlock (major b) ms)) t)
       (λ ms t e. with-plain h s (suc p) 1 _ c within (lit< tt) (length-counterBlock _ ms) (below-counterBlock _ ms) plain)
 
-  slot-plain : (c : List ℕ) (sum s o : ℕ) → s < slots h → Plain h c → PlainIf h (rebuildSlot h k a c sum s o)
+  slot-plain : (c : List ℕ) (sum s o : ℕ) → s < slots h → Plain h c → PlainIf h (rebuildSlot h keys m c sum s o)
   unfolding rebuildSlot PlainIf
   slot-plain c sum s zero within plain = plain
   slot-plain c sum s (suc p) within plain = block-plain c sum s p within plain
 
-  blocks-plain : (s : ℕ) (os c : List ℕ) (sum : ℕ) → s + length os ≤ slots h → Plain h c → PlainIf h (rebuildBlocks h k a s os c sum)
+  blocks-plain : (s : ℕ) (os c : List ℕ) (sum : ℕ) → s + length os ≤ slots h → Plain h c → PlainIf h (rebuildBlocks h keys m s os c sum)
   unfolding rebuildBlocks PlainIf
   blocks-plain s [] c sum few plain = plain
   blocks-plain s (o ∷ os) c sum few plain =
-      onward-plain h (rebuildSlot h k a c sum s o) (rebuildBlocks h k a (suc s) os)
+      onward-plain h (rebuildSlot h keys m c sum s o) (rebuildBlocks h keys m (suc s) os)
       (λ d t e. blocks-plain (suc s) os d t (omega arith) (subst (PlainIf h) e (slot-plain c sum s o (omega arith) plain)))
 
-  node-plain : (keys c : List ℕ) (s o : ℕ) → s < slots h → Plain h c → Plain h (rebuildNode h keys a c s o)
+  node-plain : (c : List ℕ) (s o : ℕ) → s < slots h → Plain h c → Plain h (rebuildNode h keys a c s o)
   unfolding rebuildNode
-  node-plain keys c s zero within plain = plain
-  node-plain keys c s (suc i) within plain =
+  node-plain c s zero within plain = plain
+  node-plain c s (suc i) within plain =
       with-plain h s (suc i) 1 _ c within (lit< tt) (tags-length keys (levelOf s - 1) (current h a c (levelOf s - 1)) (8 * i) 8)
       (tags-bytes keys (levelOf s - 1) (current h a c (levelOf s - 1)) (8 * i) 8) plain
 
-  nodes-plain : (keys : List ℕ) (s : ℕ) (os c : List ℕ) → s + length os ≤ slots h → Plain h c → Plain h (rebuildNodes h keys a s os c)
+  nodes-plain : (s : ℕ) (os c : List ℕ) → s + length os ≤ slots h → Plain h c → Plain h (rebuildNodes h keys a s os c)
   unfolding rebuildNodes
-  nodes-plain keys s [] c few plain = plain
-  nodes-plain keys s (o ∷ os) c few plain =
-      nodes-plain keys (suc s) os (rebuildNode h keys a c s o) (omega arith) (node-plain keys c s o (omega arith) plain)
+  nodes-plain s [] c few plain = plain
+  nodes-plain s (o ∷ os) c few plain =
+      nodes-plain (suc s) os (rebuildNode h keys a c s o) (omega arith) (node-plain c s o (omega arith) plain)
 
 -- ---- the call
 
@@ -125,18 +126,17 @@ module _ (keys : List ℕ) (k : ℕ) (m : Module) (b : Bytes m) (sized : length 
 
   rebuilt-call : (os : List ℕ) → length os ≡ slots h → (r : Forwarded) → PlainIf h r → Kept m ((recoverRebuilt keys k m os r) .after)
   unfolding recoverRebuilt PlainIf slots
-  rebuilt-call os e (badPhase n) p = kept-same m b
-  rebuilt-call os e (badMinor n) p = kept-same m b
+  rebuilt-call os e (failed n x) p = kept-same m b
   rebuilt-call os e (soFar d sum) p =
       root-kept sum (rebuildNodes h keys (m .array) 4 (drop 4 os) d)
-      (nodes-plain h (m .control) (m .array) keys 4 (drop 4 os) d (omega (arith, length-drop 4 os)) p)
+      (nodes-plain h keys (mediaOf m) 4 (drop 4 os) d (omega (arith, length-drop 4 os)) p)
 
   shadow-call : (os : List ℕ) → length os ≡ slots h → (f : Found) → Kept m ((recoverShadow keys k m os f) .after)
   unfolding recoverShadow slots
   shadow-call os e (At s) = kept-same m b
   shadow-call os e Nothing =
-      rebuilt-call os e (rebuildBlocks h (m .control) (m .array) 0 (take 4 os) (emptyCache h) 0)
-      (blocks-plain h (m .control) (m .array) 0 (take 4 os) (emptyCache h) 0 (omega (arith, length-take 4 os)) (empty-plain h))
+      rebuilt-call os e (rebuildBlocks h keys (mediaOf m) 0 (take 4 os) (emptyCache h) 0)
+      (blocks-plain h keys (mediaOf m) 0 (take 4 os) (emptyCache h) 0 (omega (arith, length-take 4 os)) (empty-plain h))
 
   media-kept : Kept m ((recoverMedia keys k m) .after)
   media-kept = shadow-call (shadowOwners h (m .array)) (from-length _ 0 (slots h)) (badSlot h (shadowOwners h (m .array)))
@@ -145,10 +145,9 @@ kept-trans : (m n o : Module) → Kept m n → Kept n o → Kept m o
 kept-trans m n o p q =
     record { array = q .array ∙ p .array; control = q .control ∙ p .control; cache = q .cache ∙ p .cache; bytes = q .bytes }
 
--- the depth is in the first bytes
-front-depth : (k l : List ℕ) → part k 0 7 ≡ part l 0 7 → depth k ≡ depth l
-unfolding depth
-front-depth k l e = sym (getD-part k 0 7 5 (lit< tt)) ∙ ap (λ (x : List ℕ). getD x 5 0) e ∙ getD-part l 0 7 5 (lit< tt)
+-- the module with the pending stores that an allowance lets be made
+abbrev pub made-module : Module → ℕ → Module
+made-module m a = withMedia (storeAll (mediaOf m) (made a (pendingStores (m .control)))) (m .cache)
 
 module _ (keys : List ℕ) (m : Module) (b : Bytes m) (ok : Opened keys m) where
   buffers : Buffers (depth (m .control)) m
@@ -163,27 +162,25 @@ module _ (keys : List ℕ) (m : Module) (b : Bytes m) (ok : Opened keys m) where
   abbrev xs : List Store
   xs = pendingStores (m .control)
 
-  abbrev pub made-module : ℕ → Module
-  made-module a = withMedia (storeAll (mediaOf m) (made a xs)) (m .cache)
-
-  pending-kept : (a : ℕ) → Kept m (made-module a)
+  pending-kept : (a : ℕ) → Kept m (made-module m a)
   pending-kept a = after-stores buffers a (m .cache) pending-within refl (b .cache)
 
-  pub made-depth : (a : ℕ) → depth (made-module a .control) ≡ depth (m .control)
-  made-depth a =
-      front-depth _ (m .control)
-      (stores-front (media-formed buffers) (each-take a pending-within))
+  made-front : (a : ℕ) → part (made-module m a .control) 0 7 ≡ part (m .control) 0 7
+  made-front a = stores-front (media-formed buffers) (each-take a pending-within)
+
+  pub made-depth : (a : ℕ) → depth (made-module m a .control) ≡ depth (m .control)
+  made-depth a = same-depth _ (m .control) (made-front a)
 
   opened-kept : (a : ℕ) → Kept m ((recoverJudged 0 keys a m) .after)
   unfolding recoverJudged
   opened-kept a = go (isCut a xs)
     where
-      go : (t : Bool) → Kept m ((cond {A = Called} t (record { answer = Cut (length (made a xs)); after = made-module a })
-          (recoverMedia keys (length xs) (made-module a))) .after)
+      go : (t : Bool) → Kept m ((cond {A = Called} t (record { answer = Cut (length (made a xs)); after = made-module m a })
+          (recoverMedia keys (length xs) (made-module m a))) .after)
       go true = pending-kept a
       go false =
-          kept-trans m (made-module a) _ (pending-kept a)
-          (media-kept keys (length xs) (made-module a) (pending-kept a .bytes) (ok .fits .cache ∙ ap cacheLength (sym (made-depth a))))
+          kept-trans m (made-module m a) _ (pending-kept a)
+          (media-kept keys (length xs) (made-module m a) (pending-kept a .bytes) (ok .fits .cache ∙ ap cacheLength (sym (made-depth a))))
 
 pub recover-kept : (keys : List ℕ) (a : ℕ) (m : Module) → Bytes m → Kept m ((recover keys a m) .after)
 unfolding recoverJudged

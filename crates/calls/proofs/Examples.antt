@@ -10,11 +10,12 @@ use Rattle.answer.specs.declared.Answer.{Answer}
 use Rattle.answer.specs.declared.Answer.the-variants.{Done, Blank, Cut, Refused}
 use Rattle.cache.specs.Cache.{emptyCache}
 use Rattle.control.specs.Control.{Cell}
+use Rattle.journal.specs.Journal.{media}
 use Rattle.calls.specs.Call.{Module, Called, accessRefusal}
 use Rattle.calls.specs.Read.{Reading, read}
 use Rattle.calls.specs.Write.{write}
 use Rattle.calls.specs.Turn.{Batch, turnRefusal, turnFront, turnBatches, batchesOf, beforeLast}
-use Rattle.calls.specs.Recovery.{soFar, badPhase, badMinor, rebuildBlocks, rebuildNodes, recoverRebuilt}
+use Rattle.calls.specs.Recovery.{soFar, failed, rebuildBlocks, rebuildNodes, recoverRebuilt}
 use Rattle.calls.specs.DirtyPages.{dirtyPages}
 use Rattle.calls.proofs.Run.{run}
 use Rattle.calls.proofs.Sparse.{sparse, upTo}
@@ -236,7 +237,7 @@ unfolding run sparse upTo start
 finished = refl
 
 blocks :
-    rebuildBlocks 1 (start .control) (start .array) 0 (1 ∷ 0 ∷ 0 ∷ 0 ∷ []) (emptyCache 1) 0
+    rebuildBlocks 1 (upTo 48 0) (media (start .array) (start .control)) 0 (1 ∷ 0 ∷ 0 ∷ 0 ∷ []) (emptyCache 1) 0
     ≡ soFar (sparse ((0, 1 ∷ 0 ∷ 0 ∷ 0 ∷ 0 ∷ 0 ∷ 0 ∷ 0 ∷ 1 ∷ 0 ∷ 0 ∷ 0 ∷ 0 ∷ 0 ∷ 0 ∷ 0 ∷ 0 ∷ 129 ∷ 64 ∷ [])
     ∷ (419, [])
     ∷ [])) 3
@@ -262,7 +263,7 @@ unfolding run sparse upTo start
 nodes = refl
 
 open-blocks :
-    rebuildBlocks 1 openControl (start .array) 0 (1 ∷ 0 ∷ 0 ∷ 0 ∷ []) (emptyCache 1) 0
+    rebuildBlocks 1 (upTo 48 0) (media (start .array) (openControl)) 0 (1 ∷ 0 ∷ 0 ∷ 0 ∷ []) (emptyCache 1) 0
     ≡ soFar (sparse ((0, 1 ∷ 0 ∷ 0 ∷ 0 ∷ 0 ∷ 0 ∷ 0 ∷ 0 ∷ 1 ∷ [])
     ∷ (429, [])
     ∷ [])) 0
@@ -270,21 +271,24 @@ unfolding run sparse upTo start openControl
 open-blocks = refl
 
 failing :
-    rebuildBlocks 1 (start .control) (set (set (start .array) 136 5) 36873 63) 0 (1 ∷ 0 ∷ 0 ∷ 0 ∷ []) (emptyCache 1) 0
-    ∷ rebuildBlocks 1 (start .control) (set (set (start .array) 208 4) 36873 63) 0 (1 ∷ 0 ∷ 0 ∷ 0 ∷ []) (emptyCache 1) 0
-    ∷ rebuildBlocks 1 (start .control) (set (set (set (start .array) 208 4) 4672 1) 36944 126) 0 (1 ∷ 2 ∷ 0 ∷ 0 ∷ []) (emptyCache 1) 0
+    rebuildBlocks 1 (upTo 48 0) (media (set (set (start .array) 136 5) 36873 63) (start .control))
+    0 (1 ∷ 0 ∷ 0 ∷ 0 ∷ []) (emptyCache 1) 0
+    ∷ rebuildBlocks 1 (upTo 48 0) (media (set (set (start .array) 208 4) 36873 63) (start .control))
+    0 (1 ∷ 0 ∷ 0 ∷ 0 ∷ []) (emptyCache 1) 0
+    ∷ rebuildBlocks 1 (upTo 48 0) (media (set (set (set (start .array) 208 4) 4672 1) 36944 126) (start .control))
+    0 (1 ∷ 2 ∷ 0 ∷ 0 ∷ []) (emptyCache 1) 0
     ∷ []
-    ≡ badPhase 1
-    ∷ badMinor 1
-    ∷ badPhase 2
+    ≡ failed 28 1
+    ∷ failed 32 1
+    ∷ failed 28 2
     ∷ []
 unfolding run sparse upTo start
 failing = refl
 
 failing-told :
-    (recoverRebuilt (upTo 48 0) 3 start [] (badPhase 1)) .answer
-    ∷ (recoverRebuilt (upTo 48 0) 3 start [] (badMinor 1)) .answer
-    ∷ (recoverRebuilt (upTo 48 0) 3 start [] (badPhase 2)) .answer
+    (recoverRebuilt (upTo 48 0) 3 start [] (failed 28 1)) .answer
+    ∷ (recoverRebuilt (upTo 48 0) 3 start [] (failed 32 1)) .answer
+    ∷ (recoverRebuilt (upTo 48 0) 3 start [] (failed 28 2)) .answer
     ∷ []
     ≡ Refused 28 3 1 0
     ∷ Refused 32 3 1 0

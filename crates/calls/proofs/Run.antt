@@ -8,7 +8,7 @@ use Rattle.calls.specs.Read.{sideOk, lineText, blankText, answered, read
 use Rattle.calls.specs.Write.{newBlock, lineCell, writeBatch, writeStores, writtenCache, writeLoaded, writePath, writeJudged}
 use Rattle.calls.specs.Turn.{turnRefusal, turnPlaces, badLine, batchesOf, turnFront, turnBatches, storesFor, turnedCache, turnChecked}
 use Rattle.calls.specs.Turn.{turnLoaded, turnPath, turnJudged, beforeLast, beforeFinished}
-use Rattle.calls.specs.Recovery.{recoveryRefusal, refusalOf, onward, forwardStep, forwardFrom, forwardPage, rebuildBlock}
+use Rattle.calls.specs.Recovery.{recoveryRefusal, byPhase, onward, stepped, forwardFrom, forwardPage, rebuildBlock}
 use Rattle.calls.specs.Recovery.{rebuildSlot, rebuildBlocks, rebuildNode, rebuildNodes, recoverRoot, recoverRebuilt}
 use Rattle.calls.specs.Recovery.{recoverShadow, recoverJudged}
 use Rattle.calls.specs.Format.{formatRefusal, countsFrom, freshNode, nodeCells, levelCells, freshArray, formatted, format}
@@ -36,7 +36,7 @@ unfolding codeOf storesOf firstOf secondOf owner dirty content withSlot cellCont
     countsFrom freshNode nodeCells levelCells freshArray formatted format sideOk lineText blankText answered readLoaded readPath
     readJudged newBlock lineCell writeBatch writeStores writtenCache writeLoaded writePath writeJudged turnRefusal turnPlaces badLine
     batchesOf turnFront turnBatches storesFor turnedCache turnChecked turnLoaded turnPath turnJudged beforeLast beforeFinished setFrom
-    withBits writtenFrom turnedMinor turned turnStores refusalOf onward forwardStep forwardFrom forwardPage rebuildBlock rebuildSlot
+    withBits writtenFrom turnedMinor turned turnStores byPhase onward stepped forwardFrom forwardPage rebuildBlock rebuildSlot
     rebuildBlocks rebuildNode rebuildNodes recoverRoot recoverRebuilt recoverShadow recoverJudged isDirty dirtyFrom pageList listJudged
     codeForC bufferForC leftForC evicted loadNode loadLevels renewed renewPath tagsFrom quarter quarterRound columnRound diagonalRound
     rounds addStates start serialised block depth root count newRoot queued places queue inMap turnCount turnPage turnMask isOpen

@@ -15,7 +15,7 @@ use Rattle.control.specs.Control.{depth, root, isOpen}
 use Rattle.cache.specs.Cache.{withSlot, emptyCache, cellContent, shadowOwners, badSlot, current}
 use Rattle.cache.specs.declared.Found.{Found}
 use Rattle.cache.specs.declared.Found.the-variants.{Nothing, At}
-use Rattle.journal.specs.Journal.{storeAll, pendingStores, made, isCut}
+use Rattle.journal.specs.Journal.{Media, storeAll, pendingStores, made, isCut}
 use Rattle.calls.specs.Path.{childTags}
 use Rattle.calls.specs.Call.{Module, Called, mediaOf, withMedia, judged, openingTests, refuse}
 
@@ -27,57 +27,71 @@ recoveryRefusal keys m = judged (openingTests keys m)
 abbrev pub phaseByte : List ℕ → ℕ → ℕ
 phaseByte a line = getD a (72 * line + 64) 0
 
--- How far bringing the counters forward has come: to new minors of a page, or a cache, and the sum so far; or to a line that ends it,
--- whose phase is over 3 or whose minor would be past 127
+-- What a line's cell makes of its stored minor: a new minor, or a refusal
+
+pub data Step : Type 0 where
+  to : ℕ → Step
+  bad : ℕ → Step
+
+-- a minor s brought forward to a phase p; a phase over 3 is 28, which is judged before a minor past 127, 32
+unfoldable pub byPhase : ℕ → ℕ → Step
+byPhase s p = cond (leb p 3) (cond (leb (forward s p) 127) (to (forward s p)) (bad 32)) (bad 28)
+
+-- what the steps of a page's lines may look at: the keys, the array, and the major of the page's block there
+pub record Source : Type 0 where
+  pub keys : List ℕ
+  pub array : List ℕ
+  pub major : ℕ
+
+-- the step of line n, whose stored minor is s
+abbrev pub lineStep : Source → ℕ → ℕ → Step
+lineStep x n s = byPhase s (phaseByte (x .array) n)
+
+-- How far bringing the counters forward has come: to new minors of a page, or a cache, and the sum so far; or to a refusal and the line
+-- that ends it
 
 pub data Forwarded : Type 0 where
   soFar : List ℕ → ℕ → Forwarded
-  badPhase : ℕ → Forwarded
-  badMinor : ℕ → Forwarded
-
--- the refusal of each, 0 where there is none
-unfoldable pub refusalOf : Forwarded → ℕ
-refusalOf (soFar x sum) = 0
-refusalOf (badPhase n) = 28
-refusalOf (badMinor n) = 32
+  failed : ℕ → ℕ → Forwarded
 
 -- on with what is made so far; the first line that fails ends it
 unfoldable pub onward : Forwarded → (List ℕ → ℕ → Forwarded) → Forwarded
 onward (soFar x sum) next = next x sum
-onward (badPhase n) next = badPhase n
-onward (badMinor n) next = badMinor n
+onward (failed k n) next = failed k n
 
--- the step of line n: its minor s brought forward to its phase p, after the new minors ms; the phase is judged before the minor
-unfoldable pub forwardStep : ℕ → ℕ → ℕ → List ℕ → ℕ → Forwarded
-forwardStep n s p ms sum =
-    cond (leb p 3)
-    (cond (leb (forward s p) 127) (soFar (ms ++ (forward s p ∷ [])) (sum + (forward s p - s))) (badMinor n))
-    (badPhase n)
+-- after the new minors ms, line n, whose stored minor is s
+unfoldable pub stepped : Step → ℕ → ℕ → List ℕ → ℕ → Forwarded
+stepped (to v) n s ms sum = soFar (ms ++ (v ∷ [])) (sum + (v - s))
+stepped (bad k) n s ms sum = failed k n
 
 -- the lines from n on, whose minors are these, after the new minors ms
-unfoldable pub forwardFrom : List ℕ → ℕ → List ℕ → List ℕ → ℕ → Forwarded
-forwardFrom a n [] ms sum = soFar ms sum
-forwardFrom a n (s ∷ ss) ms sum = onward (forwardStep n s (phaseByte a n) ms sum) (forwardFrom a (suc n) ss)
+unfoldable pub forwardFrom : Source → ℕ → List ℕ → List ℕ → ℕ → Forwarded
+forwardFrom x n [] ms sum = soFar ms sum
+forwardFrom x n (s ∷ ss) ms sum = onward (stepped (lineStep x n s) n s ms sum) (forwardFrom x (suc n) ss)
 
 -- the lines of page p, whose minors are ss; those of a page that is open stay as they are, and none of its lines is read
-unfoldable pub forwardPage : List ℕ → List ℕ → ℕ → List ℕ → ℕ → Forwarded
-forwardPage k a p ss sum = cond (isOpen k p) (soFar ss sum) (forwardFrom a (64 * p) ss [] sum)
+unfoldable pub forwardPage : List ℕ → Source → ℕ → List ℕ → ℕ → Forwarded
+forwardPage k x p ss sum = cond (isOpen k p) (soFar ss sum) (forwardFrom x (64 * p) ss [] sum)
 
--- the block of page p, of the array, brought forward into slot s of c; k is the control record
-unfoldable pub rebuildBlock : ℕ → List ℕ → List ℕ → List ℕ → ℕ → ℕ → ℕ → Forwarded
-rebuildBlock h k a c sum s p =
-    let b = cellContent a (cellOf h (node 0 p)) in
-    onward (forwardPage k a p (minors b) sum) (λ ms t. soFar (withSlot c s (suc p) 1 (counterBlock (major b) ms)) t)
+abbrev pub sourceOf : List ℕ → Media → ℕ → Source
+sourceOf keys d ma = record { keys = keys; array = d .array; major = ma }
+
+-- the block of page p, of the array, brought forward into slot s of c
+unfoldable pub rebuildBlock : ℕ → List ℕ → Media → List ℕ → ℕ → ℕ → ℕ → Forwarded
+rebuildBlock h keys d c sum s p =
+    let b = cellContent (d .array) (cellOf h (node 0 p)) in
+    onward (forwardPage (d .control) (sourceOf keys d (major b)) p (minors b) sum)
+    (λ ms t. soFar (withSlot c s (suc p) 1 (counterBlock (major b) ms)) t)
 
 -- slot s for the owner that the shadow lists there
-unfoldable pub rebuildSlot : ℕ → List ℕ → List ℕ → List ℕ → ℕ → ℕ → ℕ → Forwarded
-rebuildSlot h k a c sum s zero = soFar c sum
-rebuildSlot h k a c sum s (suc p) = rebuildBlock h k a c sum s p
+unfoldable pub rebuildSlot : ℕ → List ℕ → Media → List ℕ → ℕ → ℕ → ℕ → Forwarded
+rebuildSlot h keys d c sum s zero = soFar c sum
+rebuildSlot h keys d c sum s (suc p) = rebuildBlock h keys d c sum s p
 
 -- counter slots from s on, for these owners
-unfoldable pub rebuildBlocks : ℕ → List ℕ → List ℕ → ℕ → List ℕ → List ℕ → ℕ → Forwarded
-rebuildBlocks h k a s [] c sum = soFar c sum
-rebuildBlocks h k a s (o ∷ os) c sum = onward (rebuildSlot h k a c sum s o) (rebuildBlocks h k a (suc s) os)
+unfoldable pub rebuildBlocks : ℕ → List ℕ → Media → ℕ → List ℕ → List ℕ → ℕ → Forwarded
+rebuildBlocks h keys d s [] c sum = soFar c sum
+rebuildBlocks h keys d s (o ∷ os) c sum = onward (rebuildSlot h keys d c sum s o) (rebuildBlocks h keys d (suc s) os)
 
 -- a node from the tags of its children as rebuilt, else as in the array
 unfoldable pub rebuildNode : ℕ → List ℕ → List ℕ → List ℕ → ℕ → ℕ → List ℕ
@@ -103,15 +117,14 @@ recoverRoot keys k m sum c =
 
 unfoldable pub recoverRebuilt : List ℕ → ℕ → Module → List ℕ → Forwarded → Called
 recoverRebuilt keys k m os (soFar d sum) = recoverRoot keys k m sum (rebuildNodes (depth (m .control)) keys (m .array) 4 (drop 4 os) d)
-recoverRebuilt keys k m os (badPhase n) = refuseAfter k m (refusalOf (badPhase n)) n
-recoverRebuilt keys k m os (badMinor n) = refuseAfter k m (refusalOf (badMinor n)) n
+recoverRebuilt keys k m os (failed n x) = refuseAfter k m n x
 
 -- the cache is built only from the owners os that the shadow lists
 unfoldable pub recoverShadow : List ℕ → ℕ → Module → List ℕ → Found → Called
 recoverShadow keys k m os (At s) = refuseAfter k m 27 s
 recoverShadow keys k m os Nothing =
     let h = depth (m .control) in
-    recoverRebuilt keys k m os (rebuildBlocks h (m .control) (m .array) 0 (take 4 os) (emptyCache h) 0)
+    recoverRebuilt keys k m os (rebuildBlocks h keys (mediaOf m) 0 (take 4 os) (emptyCache h) 0)
 
 abbrev pub recoverMedia : List ℕ → ℕ → Module → Called
 recoverMedia keys k m =

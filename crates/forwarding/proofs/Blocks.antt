@@ -19,9 +19,11 @@ use Rattle.control.specs.Control.{isOpen}
 use Rattle.cache.specs.Cache.{withSlot, cellContent}
 use Rattle.cache.proofs.Owners.{rest, none as past}
 use Rattle.node.proofs.Laws.{slot-put, cell-room}
-use Rattle.calls.specs.Recovery.{Forwarded, soFar, onward, forwardPage, phaseByte, rebuildBlock, rebuildSlot, rebuildBlocks}
-use Rattle.forwarding.specs.Rebuild.{Placed}
-use Rattle.forwarding.proofs.Forward.{Forwarding, forwarded, failed, failed-ends, page-fails, page-all}
+use Rattle.journal.specs.Journal.{Media}
+use Rattle.calls.specs.Recovery.{Source, lineStep, sourceOf, Forwarded, soFar, failed, onward, forwardPage}
+use Rattle.calls.specs.Recovery.{rebuildBlock, rebuildSlot, rebuildBlocks}
+use Rattle.forwarding.specs.Rebuild.{Placed, sourceIs, asByte}
+use Rattle.forwarding.proofs.Forward.{Forwarding, page-fails, page-all}
 
 -- the owners from slot s on, of n
 abbrev pub left : List ℕ → ℕ → ℕ → List ℕ
@@ -57,13 +59,15 @@ page-lines h a p size m = omega (arith, cell-room h a 0 p size m, node-cell h 0 
 pub filled : (o : ℕ) → (o ≡ 0 → ⊥) → o ≡ suc (o - 1)
 filled o p = omega arith
 
-module _ (h : ℕ) (k a os : List ℕ) where
+module _ (h : ℕ) (keys : List ℕ) (m : Media) (os : List ℕ) where
+  open Media m using (array as a, control as k)
+
   abbrev owner : ℕ → ℕ
   owner s = getD os s 0
 
   -- what is left to do from slot s on
   abbrev pub blocksFrom : ℕ → List ℕ → ℕ → Forwarded
-  blocksFrom s c sum = rebuildBlocks h k a s (left os 4 s) c sum
+  blocksFrom s c sum = rebuildBlocks h keys m s (left os 4 s) c sum
 
   -- the counter slots before s are rebuilt, from the cache first: c with what is told so far
   pub record Rebuilding (first c : List ℕ) (sum s : ℕ) : Type 0 where
@@ -87,53 +91,59 @@ module _ (h : ℕ) (k a os : List ℕ) where
 
   module _ (size : length os ≡ 10) where
     module _ (s : ℕ) (p : s < 4) (c : List ℕ) (sum : ℕ) where
-      slot-then : {r : Forwarded} → rebuildSlot h k a c sum s (owner s) ≡ r
-          → blocksFrom s c sum ≡ onward r (rebuildBlocks h k a (suc s) (left os 4 (s + 1)))
+      slot-then : {r : Forwarded} → rebuildSlot h keys m c sum s (owner s) ≡ r
+          → blocksFrom s c sum ≡ onward r (rebuildBlocks h keys m (suc s) (left os 4 (s + 1)))
       unfolding rebuildBlocks
       slot-then {r} e =
-          ap (λ (l : List ℕ). rebuildBlocks h k a s l c sum) (left-next os 4 s p (omega arith))
-          ∙ ap (λ (x : Forwarded). onward x (rebuildBlocks h k a (suc s) (left os 4 (s + 1)))) e
+          ap (λ (l : List ℕ). rebuildBlocks h keys m s l c sum) (left-next os 4 s p (omega arith))
+          ∙ ap (λ (x : Forwarded). onward x (rebuildBlocks h keys m (suc s) (left os 4 (s + 1)))) e
 
-      slot-first : {d : List ℕ} {t : ℕ} → rebuildSlot h k a c sum s (owner s) ≡ soFar d t → blocksFrom s c sum ≡ blocksFrom (s + 1) d t
+      slot-first : {d : List ℕ} {t : ℕ} → rebuildSlot h keys m c sum s (owner s) ≡ soFar d t → blocksFrom s c sum ≡ blocksFrom (s + 1) d t
       unfolding onward
-      slot-first {d} {t} e = slot-then e ∙ ap (λ (i : ℕ). rebuildBlocks h k a i (left os 4 (s + 1)) d t) (sym (add-one s))
+      slot-first {d} {t} e = slot-then e ∙ ap (λ (i : ℕ). rebuildBlocks h keys m i (left os 4 (s + 1)) d t) (sym (add-one s))
 
       pub blocks-empty : owner s ≡ 0 → blocksFrom s c sum ≡ blocksFrom (s + 1) c sum
       unfolding rebuildSlot
-      blocks-empty e = slot-first (ap (rebuildSlot h k a c sum s) e)
+      blocks-empty e = slot-first (ap (rebuildSlot h keys m c sum s) e)
 
       -- a filled slot: the owner's block b, and the minors ms of this
       module _ (some· : owner s ≡ 0 → ⊥) {b ms : List ℕ} (u : b ≡ cellContent a (cellOf h (node 0 (owner s - 1))))
           (w : ms ≡ minors b) where
-        block : rebuildSlot h k a c sum s (owner s) ≡ rebuildBlock h k a c sum s (owner s - 1)
+        block : rebuildSlot h keys m c sum s (owner s) ≡ rebuildBlock h keys m c sum s (owner s - 1)
         unfolding rebuildSlot
-        block = ap (rebuildSlot h k a c sum s) (filled (owner s) some·)
+        block = ap (rebuildSlot h keys m c sum s) (filled (owner s) some·)
 
         as-minors : ms ≡ minors (cellContent a (cellOf h (node 0 (owner s - 1))))
         as-minors = w ∙ ap minors u
 
+        -- what its lines are brought forward by
+        abbrev source : Source
+        source = sourceOf keys m (major b)
+
         -- the block's minors brought forward, and then its slot
-        slot-forward : {r : Forwarded} → forwardPage k a (owner s - 1) ms sum ≡ r
+        slot-forward : {r : Forwarded} → forwardPage k source (owner s - 1) ms sum ≡ r
             → let b = cellContent a (cellOf h (node 0 (owner s - 1))) in
-            rebuildSlot h k a c sum s (owner s)
+            rebuildSlot h keys m c sum s (owner s)
             ≡ onward r (λ (ns : List ℕ) (t : ℕ). soFar (withSlot c s (suc (owner s - 1)) 1 (counterBlock (major b) ns)) t)
         unfolding rebuildBlock
         slot-forward f =
             block
             ∙ ap (λ (r : Forwarded). onward r (λ (ns : List ℕ) (t : ℕ). soFar
             (withSlot c s (suc (owner s - 1)) 1 (counterBlock (major (cellContent a (cellOf h (node 0 (owner s - 1))))) ns)) t))
-            (ap (λ (l : List ℕ). forwardPage k a (owner s - 1) l sum) (sym as-minors) ∙ f)
+            (ap₂ {C = Forwarded} (λ (l x : List ℕ). forwardPage k (sourceOf keys m (major x)) (owner s - 1) l sum) (sym as-minors) (sym u)
+            ∙ f)
 
-        blocks-fails : (phase n : ℕ) → forwardPage k a (owner s - 1) ms sum ≡ failed phase n → blocksFrom s c sum ≡ failed phase n
-        blocks-fails phase n f = slot-then (slot-forward f ∙ failed-ends phase n _) ∙ failed-ends phase n _
+        blocks-fails : (j n : ℕ) → forwardPage k source (owner s - 1) ms sum ≡ failed j n → blocksFrom s c sum ≡ failed j n
+        unfolding onward
+        blocks-fails j n f = slot-then (slot-forward f)
 
-        blocks-next : {cur d : List ℕ} {t ma : ℕ} → forwardPage k a (owner s - 1) ms sum ≡ soFar cur t → ma ≡ major b
+        blocks-next : {cur d : List ℕ} {t ma : ℕ} → forwardPage k source (owner s - 1) ms sum ≡ soFar cur t → ma ≡ major b
             → d ≡ withSlot c s (owner s) 1 (counterBlock ma cur) → blocksFrom s c sum ≡ blocksFrom (s + 1) d t
         unfolding onward
-        blocks-next {cur} {d} {t} {ma} f m z =
+        blocks-next {cur} {d} {t} {ma} f q z =
             slot-first (slot-forward f
             ∙ ap (λ (x : List ℕ). soFar x t)
-            (ap₂ {C = List ℕ} (λ (o i : ℕ). withSlot c s o 1 (counterBlock i cur)) (sym (filled (owner s) some·)) (sym (m ∙ ap major u))
+            (ap₂ {C = List ℕ} (λ (o i : ℕ). withSlot c s o 1 (counterBlock i cur)) (sym (filled (owner s) some·)) (sym (q ∙ ap major u))
             ∙ sym z))
 
     module _ {first c : List ℕ} {sum s : ℕ} (r : Rebuilding first c sum s) (p : s < 4) where
@@ -143,25 +153,30 @@ module _ (h : ℕ) (k a os : List ℕ) where
 
       -- the owner's block b lies in cell i, and its minors ms are brought forward in cur
       module _ (some· : owner s ≡ 0 → ⊥) {i : ℕ} {b ms cur : List ℕ} {j t : ℕ} (cell : i ≡ cellOf h (node 0 (owner s - 1)))
-          (block : b ≡ cellContent a i) (unpacked : ms ≡ minors b) (f : Forwarding a (64 * (owner s - 1)) ms sum cur j t) where
+          (block : b ≡ cellContent a i) (unpacked : ms ≡ minors b) {ma : ℕ} (majored : ma ≡ major b)
+          (f : Forwarding (sourceIs keys a ma) (64 * (owner s - 1)) ms sum cur j t) where
         -- the line after those that are brought forward
         abbrev line : ℕ
         line = 64 * (owner s - 1) + j
 
-        pub rebuilding-fails : {n : ℕ} → n ≡ cond (isOpen k (owner s - 1)) 0 64 → j < n → {v : ℕ}
-            → v ≡ forwarded (getD cur j 0) (phaseByte a line) → 128 ≤ v → blocksFrom 0 first 0 ≡ failed (phaseByte a line) line
-        rebuilding-fails bound q e z =
-            r .rest ∙ blocks-fails s p c sum some· (block ∙ ap (cellContent a) cell) unpacked (phaseByte a line) line
-            (page-fails k a (owner s - 1) ms sum f bound q e z)
+        as-source : {x : Forwarded} → forwardPage k (sourceIs keys a ma) (owner s - 1) ms sum ≡ x
+            → forwardPage k (sourceOf keys m (major b)) (owner s - 1) ms sum ≡ x
+        as-source e =
+            ap (λ (n : ℕ). forwardPage k (sourceIs keys a n) (owner s - 1) ms sum) (sym majored) ∙ e
 
-        pub rebuilding-next : {n : ℕ} → n ≡ cond (isOpen k (owner s - 1)) 0 64 → j ≤ n → n ≤ j → j ≤ 64 → {ma : ℕ} {d : List ℕ}
-            → ma ≡ major b
+        pub rebuilding-fails : {n : ℕ} → n ≡ cond (isOpen k (owner s - 1)) 0 64 → j < n → {v : ℕ}
+            → v ≡ asByte (lineStep (sourceIs keys a ma) line (getD cur j 0)) → 128 ≤ v → blocksFrom 0 first 0 ≡ failed (v - 128) line
+        rebuilding-fails bound q {v} e z =
+            r .rest ∙ blocks-fails s p c sum some· (block ∙ ap (cellContent a) cell) unpacked (v - 128) line
+            (as-source (page-fails k (sourceIs keys a ma) (owner s - 1) ms sum f bound q e z))
+
+        pub rebuilding-next : {n : ℕ} → n ≡ cond (isOpen k (owner s - 1)) 0 64 → j ≤ n → n ≤ j → j ≤ 64 → {d : List ℕ}
             → d ≡ withSlot c s (owner s) 1 (counterBlock ma cur) → length d ≡ length c → Rebuilding first d t (s + 1)
-        rebuilding-next bound q all most m e l =
+        rebuilding-next bound q all most e l =
             record {
               most = omega arith;
               few = omega (arith, r .few, f .least);
               full = l ∙ r .full;
               rest = r .rest ∙ blocks-next s p c sum some· (block ∙ ap (cellContent a) cell) unpacked
-                  (page-all k a (owner s - 1) ms sum f bound q all) m e;
+                  (as-source (page-all k (sourceIs keys a ma) (owner s - 1) ms sum f bound q all)) majored e;
             }

@@ -1,7 +1,7 @@
 -- Minors brought forward one by one. Assumes nothing.
 use mathlib.Core.Path.{_≡_, refl, sym, ap, ap₂, _∙_}
 use mathlib.Core.Bool.{Bool, true, false, cond}
-use mathlib.Core.List.{List, [], _∷_, _++_}
+use mathlib.Core.List.{List, []}
 use Prim.Native.Nat.{ℕ, suc, _+_, _-_, _*_, _≤_, _<_}
 use native.Mathlib.Nat.{add-zero, le-refl}
 use native.Mathlib.Numerals.{add-one}
@@ -14,134 +14,124 @@ use Rattle.words.proofs.Digits.{Below, below-set}
 use Rattle.counter.specs.Counter.{forward}
 use Rattle.counter.proofs.Laws.{forward-ge, forward-le}
 use Rattle.control.specs.Control.{isOpen}
-use Rattle.calls.specs.Recovery.{Forwarded, soFar, badPhase, badMinor, onward, forwardStep, forwardFrom, forwardPage, phaseByte}
-use Rattle.forwarding.specs.Rebuild.{counted}
-use Rattle.forwarding.specs.declared.Counters.{Counters}
-use Rattle.forwarding.specs.declared.Counters.the-variants.{BadPhase, BadMinor}
+use Rattle.calls.specs.Recovery.{Step, to, bad, byPhase, Source, lineStep, phaseByte}
+use Rattle.calls.specs.Recovery.{Forwarded, soFar, failed, onward, stepped, forwardFrom, forwardPage}
+use Rattle.forwarding.specs.Rebuild.{asByte}
 
--- a minor brought forward, 255 where it may not be
-abbrev pub forwarded : ℕ → ℕ → ℕ
-forwarded s p = cond (leb p 3) (cond (leb (forward s p) 127) (forward s p) 255) 255
+-- ---- the step of a line
+
+-- what a step may come to from the minor s
+unfoldable pub Within : ℕ → Step → Type 0
+Within s (to v) = (s ≤ v) × (v ≤ s + 3) × (v < 128)
+Within s (bad k) = Unit {0}
+
+phase-within : (s p : ℕ) → Within s (byPhase s p)
+unfolding Within byPhase
+phase-within s p = go (leb p 3) (leb (forward s p) 127) refl
+  where
+    go : (b d : Bool) → leb (forward s p) 127 ≡ d → Within s (cond b (cond d (to (forward s p)) (bad 32)) (bad 28))
+    go true true e = (forward-ge s p, forward-le s p, omega (arith, leb-true (forward s p) 127 e))
+    go true false e = tt
+    go false d e = tt
+
+line-within : (x : Source) (n s : ℕ) → Within s (lineStep x n s)
+line-within x n s = phase-within s (phaseByte (x .array) n)
 
 -- how the code of `forwarded` ends
-pub phase-out : (s p : ℕ) → 3 < p → 255 ≡ forwarded s p
-phase-out s p q = rw (lt-leb p 3 q)
+module _ (s p : ℕ) where
+  pub phase-out : 3 < p → 128 + 28 ≡ asByte (byPhase s p)
+  unfolding asByte byPhase
+  phase-out q = rw (lt-leb p 3 q) refl
 
-pub minor-out : (s p : ℕ) {r : ℕ} → p ≤ 3 → r ≡ forward s p → 127 < r → 255 ≡ forwarded s p
-minor-out s p {r} l e q =
-    let past : 127 < forward s p = omega arith in
-    rw (le-leb p 3 l, lt-leb (forward s p) 127 past)
+  module _ (l : p ≤ 3) {r : ℕ} (e : r ≡ forward s p) where
+    pub minor-out : 127 < r → 128 + 32 ≡ asByte (byPhase s p)
+    unfolding asByte byPhase
+    minor-out q = let past : 127 < forward s p = omega arith in rw (le-leb p 3 l, lt-leb (forward s p) 127 past) refl
 
-pub minor-in : (s p : ℕ) {r : ℕ} → p ≤ 3 → r ≡ forward s p → r ≤ 127 → r ≡ forwarded s p
-minor-in s p {r} l e q =
-    let few : forward s p ≤ 127 = omega arith in
-    rw (le-leb p 3 l, le-leb (forward s p) 127 few) e
+    pub minor-in : r ≤ 127 → r ≡ asByte (byPhase s p)
+    unfolding asByte byPhase
+    minor-in q = let few : forward s p ≤ 127 = omega arith in rw (le-leb p 3 l, le-leb (forward s p) 127 few) e
 
--- what a line n of phase p that fails comes to, and what the code tells of it
-abbrev pub failed : ℕ → ℕ → Forwarded
-failed p n = cond (leb p 3) (badMinor n) (badPhase n)
+-- a step, by the byte that tells it
+record ByByte (s v : ℕ) (t : Step) : Type 0 where
+  made : v < 128 → t ≡ to v
+  least : v < 128 → s ≤ v
+  most : v < 128 → v ≤ s + 3
+  fails : 128 ≤ v → t ≡ bad (v - 128)
 
-pub failed-told : (p n : ℕ) {r : Counters} (c : List ℕ) → r ≡ cond (leb p 3) (BadMinor n) (BadPhase n) → counted r c ≡ failed p n
-unfolding counted
-failed-told p n c e = ap (λ (x : Counters). counted x c) e ∙ go (leb p 3)
-  where
-    go : (b : Bool) → counted (cond b (BadMinor n) (BadPhase n)) c ≡ cond b (badMinor n) (badPhase n)
-    go true = refl
-    go false = refl
+by-byte : (s : ℕ) (t : Step) → Within s t → {v : ℕ} → v ≡ asByte t → ByByte s v t
+unfolding Within asByte
+by-byte s (to u) w e =
+    record {
+      made = λ q. ap to (sym e);
+      least = λ q. omega (arith, w .0);
+      most = λ q. omega (arith, w .1);
+      fails = λ q. absurd (omega (arith, w .2));
+    }
+by-byte s (bad k) w {v} e =
+    let number : k ≡ v - 128 = omega arith in
+    record {
+      made = λ q. absurd (omega arith);
+      least = λ q. absurd (omega arith);
+      most = λ q. absurd (omega arith);
+      fails = λ q. ap bad number;
+    }
 
-pub failed-ends : (p n : ℕ) (next : List ℕ → ℕ → Forwarded) → onward (failed p n) next ≡ failed p n
-unfolding onward
-failed-ends p n next = go (leb p 3)
-  where
-    go : (b : Bool) → onward (cond b (badMinor n) (badPhase n)) next ≡ cond b (badMinor n) (badPhase n)
-    go true = refl
-    go false = refl
+line-byte : (x : Source) (n s : ℕ) {v : ℕ} → v ≡ asByte (lineStep x n s) → ByByte s v (lineStep x n s)
+line-byte x n s e = by-byte s (lineStep x n s) (line-within x n s) e
 
--- the step of line n, by what the code makes of its minor and phase
-module _ (n s p : ℕ) (ms : List ℕ) (sum : ℕ) {v : ℕ} (e : v ≡ forwarded s p) where
-  abbrev next : Forwarded
-  next = soFar (ms ++ (forward s p ∷ [])) (sum + (forward s p - s))
-
-  step-fails : 128 ≤ v → forwardStep n s p ms sum ≡ failed p n
-  unfolding forwardStep
-  step-fails q = go (leb p 3) (leb (forward s p) 127) refl e
-    where
-      go : (b d : Bool) → leb (forward s p) 127 ≡ d → v ≡ cond b (cond d (forward s p) 255) 255
-          → cond b (cond d next (badMinor n)) (badPhase n) ≡ cond b (badMinor n) (badPhase n)
-      go true true f g = absurd (omega (arith, leb-true (forward s p) 127 f))
-      go true false f g = refl
-      go false d f g = refl
-
-  module _ (q : v < 128) where
-    made : (v ≡ forward s p) × (forwardStep n s p ms sum ≡ next)
-    unfolding forwardStep
-    made = go (leb p 3) (leb (forward s p) 127) e
-      where
-        go : (b d : Bool) → v ≡ cond b (cond d (forward s p) 255) 255
-            → (v ≡ forward s p) × (cond b (cond d next (badMinor n)) (badPhase n) ≡ next)
-        go true true g = (g, refl)
-        go true false g = absurd (omega arith)
-        go false d g = absurd (omega arith)
-
-    step-ge : s ≤ v
-    step-ge = omega (arith, made .0, forward-ge s p)
-
-    step-le : v ≤ s + 3
-    step-le = omega (arith, made .0, forward-le s p)
-
-    step-made : forwardStep n s p ms sum ≡ soFar (ms ++ (v ∷ [])) (sum + (v - s))
-    step-made = made .1 ∙ ap (λ (x : ℕ). soFar (ms ++ (x ∷ [])) (sum + (x - s))) (sym (made .0))
+-- ---- lines one by one
 
 -- the minors ss of lines from n on, of which the first j are brought forward in cur; sum is first and the steps
-pub record Forwarding (a : List ℕ) (n : ℕ) (ss : List ℕ) (first : ℕ) (cur : List ℕ) (j sum : ℕ) : Type 0 where
+pub record Forwarding (x : Source) (n : ℕ) (ss : List ℕ) (first : ℕ) (cur : List ℕ) (j sum : ℕ) : Type 0 where
   pub size : length cur ≡ 64
   pub few : Below 128 cur
-  pub rest : forwardFrom a n ss [] first ≡ forwardFrom a (n + j) (drop j cur) (take j cur) sum
+  pub rest : forwardFrom x n ss [] first ≡ forwardFrom x (n + j) (drop j cur) (take j cur) sum
   pub least : sum ≤ first + 3 * j
   pub begun : j ≡ 0 → (cur ≡ ss) × (sum ≡ first)
 
-module _ (a : List ℕ) (n : ℕ) (ss : List ℕ) (first : ℕ) where
-  pub forwarding-none : length ss ≡ 64 → Below 128 ss → Forwarding a n ss first ss 0 first
+module _ (x : Source) (n : ℕ) (ss : List ℕ) (first : ℕ) where
+  pub forwarding-none : length ss ≡ 64 → Below 128 ss → Forwarding x n ss first ss 0 first
   forwarding-none size few =
       record {
         size = size;
         few = few;
-        rest = ap (λ (k : ℕ). forwardFrom a k ss [] first) (sym (add-zero n));
+        rest = ap (λ (k : ℕ). forwardFrom x k ss [] first) (sym (add-zero n));
         least = omega arith;
         begun = λ e. (refl, refl);
       }
 
-  module _ {cur : List ℕ} {j sum : ℕ} (f : Forwarding a n ss first cur j sum) (q : j < 64) {v : ℕ}
-      (e : v ≡ forwarded (getD cur j 0) (phaseByte a (n + j))) where
+  module _ {cur : List ℕ} {j sum : ℕ} (f : Forwarding x n ss first cur j sum) (q : j < 64) {v : ℕ}
+      (e : v ≡ asByte (lineStep x (n + j) (getD cur j 0))) where
     abbrev old : ℕ
     old = getD cur j 0
 
-    abbrev phase : ℕ
-    phase = phaseByte a (n + j)
+    by : ByByte old v (lineStep x (n + j) old)
+    by = line-byte x (n + j) old e
 
     -- line n + j, and those after it
     abbrev others : List ℕ → ℕ → Forwarded
-    others = forwardFrom a (suc (n + j)) (drop (suc j) cur)
+    others = forwardFrom x (suc (n + j)) (drop (suc j) cur)
 
-    opened : forwardFrom a n ss [] first ≡ onward (forwardStep (n + j) old phase (take j cur) sum) others
+    opened : {t : Step} → lineStep x (n + j) old ≡ t → forwardFrom x n ss [] first ≡ onward (stepped t (n + j) old (take j cur) sum) others
     unfolding forwardFrom
-    opened =
-        f .rest ∙ ap (λ (l : List ℕ). forwardFrom a (n + j) l (take j cur) sum) (drop-cons cur j 0 (omega (arith, f .size)))
+    opened d =
+        f .rest ∙ ap (λ (l : List ℕ). forwardFrom x (n + j) l (take j cur) sum) (drop-cons cur j 0 (omega (arith, f .size)))
+        ∙ ap (λ (t : Step). onward (stepped t (n + j) old (take j cur) sum) others) d
 
-    pub forwarding-fails : 128 ≤ v → forwardFrom a n ss [] first ≡ failed phase (n + j)
-    forwarding-fails p =
-        opened ∙ ap (λ (r : Forwarded). onward r others) (step-fails (n + j) old phase (take j cur) sum e p)
-        ∙ failed-ends phase (n + j) others
+    pub forwarding-fails : 128 ≤ v → forwardFrom x n ss [] first ≡ failed (v - 128) (n + j)
+    unfolding stepped onward
+    forwarding-fails p = opened (by .fails p)
 
     module _ (p : v < 128) where
       pub forwarded-ge : old ≤ v
-      forwarded-ge = step-ge (n + j) old phase [] sum e p
+      forwarded-ge = by .least p
 
       pub forwarded-le : v ≤ old + 3
-      forwarded-le = step-le (n + j) old phase [] sum e p
+      forwarded-le = by .most p
 
-      pub forwarding-next : Forwarding a n ss first (set cur j v) (j + 1) (sum + (v - old))
-      unfolding onward
+      pub forwarding-next : Forwarding x n ss first (set cur j v) (j + 1) (sum + (v - old))
+      unfolding stepped onward
       forwarding-next =
           let room : j < length cur = omega (arith, f .size) in
           let past : suc (n + j) ≡ n + (j + 1) = omega arith in
@@ -150,23 +140,22 @@ module _ (a : List ℕ) (n : ℕ) (ss : List ℕ) (first : ℕ) where
             size = length-set cur j v ∙ f .size;
             few = below-set cur j v (omega arith) (f .few);
             rest =
-                opened
-                ∙ ap (λ (r : Forwarded). onward r others) (step-made (n + j) old phase (take j cur) sum e p)
-                ∙ ap₂ {C = Forwarded} (λ (xs ys : List ℕ). forwardFrom a (suc (n + j)) ys xs t)
+                opened (by .made p)
+                ∙ ap₂ {C = Forwarded} (λ (xs ys : List ℕ). forwardFrom x (suc (n + j)) ys xs t)
                 (sym (take-suc-set cur j v room) ∙ ap (λ (k : ℕ). take k (set cur j v)) (sym (add-one j)))
                 (sym (drop-set-lt (suc j) cur j v (le-refl (suc j))) ∙ ap (λ (k : ℕ). drop k (set cur j v)) (sym (add-one j)))
-                ∙ ap (λ (k : ℕ). forwardFrom a k (drop (j + 1) (set cur j v)) (take (j + 1) (set cur j v)) t) past;
+                ∙ ap (λ (k : ℕ). forwardFrom x k (drop (j + 1) (set cur j v)) (take (j + 1) (set cur j v)) t) past;
             least = omega (arith, f .least, forwarded-le);
             begun = λ e. absurd (omega arith);
           }
 
   -- all of them
-  pub forwarding-all : {cur : List ℕ} {j sum : ℕ} → Forwarding a n ss first cur j sum → 64 ≤ j
-      → forwardFrom a n ss [] first ≡ soFar cur sum
+  pub forwarding-all : {cur : List ℕ} {j sum : ℕ} → Forwarding x n ss first cur j sum → 64 ≤ j
+      → forwardFrom x n ss [] first ≡ soFar cur sum
   unfolding forwardFrom
   forwarding-all {cur} {j} {sum} f p =
       f .rest
-      ∙ ap₂ {C = Forwarded} (λ (xs ys : List ℕ). forwardFrom a (n + j) ys xs sum) (take-all j cur (omega (arith, f .size)))
+      ∙ ap₂ {C = Forwarded} (λ (xs ys : List ℕ). forwardFrom x (n + j) ys xs sum) (take-all j cur (omega (arith, f .size)))
       (drop-of-length-le cur (let past : length cur ≤ j = omega (arith, f .size) in past))
 
 -- ---- a page, of which n lines are brought forward: none where it is open
@@ -175,22 +164,22 @@ pub few-lines : (b : Bool) (n : ℕ) → n ≡ cond b 0 64 → n ≤ 64
 few-lines true n e = omega arith
 few-lines false n e = omega arith
 
-module _ (k a : List ℕ) (p : ℕ) (ss : List ℕ) (first : ℕ) {cur : List ℕ} {j sum n : ℕ} (f : Forwarding a (64 * p) ss first cur j sum)
-    (bound : n ≡ cond (isOpen k p) 0 64) where
-  pub page-fails : j < n → {v : ℕ} → v ≡ forwarded (getD cur j 0) (phaseByte a (64 * p + j)) → 128 ≤ v
-      → forwardPage k a p ss first ≡ failed (phaseByte a (64 * p + j)) (64 * p + j)
+module _ (k : List ℕ) (x : Source) (p : ℕ) (ss : List ℕ) (first : ℕ) {cur : List ℕ} {j sum n : ℕ}
+    (f : Forwarding x (64 * p) ss first cur j sum) (bound : n ≡ cond (isOpen k p) 0 64) where
+  pub page-fails : j < n → {v : ℕ} → v ≡ asByte (lineStep x (64 * p + j) (getD cur j 0)) → 128 ≤ v
+      → forwardPage k x p ss first ≡ failed (v - 128) (64 * p + j)
   unfolding forwardPage
-  page-fails q e z = go (isOpen k p) bound
+  page-fails q {v} e z = go (isOpen k p) bound
     where
       go : (b : Bool) → n ≡ cond b 0 64
-          → cond b (soFar ss first) (forwardFrom a (64 * p) ss [] first) ≡ failed (phaseByte a (64 * p + j)) (64 * p + j)
+          → cond b (soFar ss first) (forwardFrom x (64 * p) ss [] first) ≡ failed (v - 128) (64 * p + j)
       go true w = absurd (omega arith)
-      go false w = forwarding-fails a (64 * p) ss first f (omega arith) e z
+      go false w = forwarding-fails x (64 * p) ss first f (omega arith) e z
 
-  pub page-all : j ≤ n → n ≤ j → forwardPage k a p ss first ≡ soFar cur sum
+  pub page-all : j ≤ n → n ≤ j → forwardPage k x p ss first ≡ soFar cur sum
   unfolding forwardPage
   page-all q r = go (isOpen k p) bound
     where
-      go : (b : Bool) → n ≡ cond b 0 64 → cond b (soFar ss first) (forwardFrom a (64 * p) ss [] first) ≡ soFar cur sum
+      go : (b : Bool) → n ≡ cond b 0 64 → cond b (soFar ss first) (forwardFrom x (64 * p) ss [] first) ≡ soFar cur sum
       go true w = let same = f .begun (omega arith) in sym (ap₂ soFar (same .0) (same .1))
-      go false w = forwarding-all a (64 * p) ss first f (omega arith)
+      go false w = forwarding-all x (64 * p) ss first f (omega arith)

@@ -2,47 +2,47 @@
 ghost use mathlib.Core.Path.{_≡_};
 ghost use mathlib.Core.Bool.{cond};
 ghost use Prim.Native.Nat.{ℕ, _+_, _*_, _<_, _≤_};
-ghost use lib.Dec.{leb};
 ghost use lib.ListN.{length, getD, take};
-ghost use Rattle.counter.specs.Counter.{counterBlock, forward};
+ghost use Rattle.counter.specs.Counter.{counterBlock};
 ghost use Rattle.control.specs.Control.{controlLength, isOpen};
 ghost use Rattle.cache.specs.Cache.{withSlot};
 ghost use Rattle.node.specs.Sized.{Sized};
-ghost use Rattle.calls.specs.Recovery.{rebuildBlocks};
-ghost use Rattle.forwarding.specs.Rebuild.{Placed, counted};
-ghost use Rattle.forwarding.specs.declared.Counters.the-variants.{BadPhase, BadMinor};
+ghost use Rattle.journal.specs.Journal.{media};
+ghost use Rattle.calls.specs.Recovery.{phaseByte, byPhase, rebuildBlocks};
+ghost use Rattle.forwarding.specs.Rebuild.{Placed, asByte, counted};
 
-// What bringing the counters forward gives: the sum of the steps, or the line that ends it, by a phase over 3 or by a minor
-// past 127.
+// What bringing the counters forward gives: the sum of the steps, or a refusal and the line that ends it.
 pub enum Counters {
     Sum(u64),
-    BadPhase(u64),
-    BadMinor(u64),
+    Failed { number: u64, line: u64 },
 }
 
-// A minor brought forward to a phase: 255 where the phase is over 3 or the minor would be past 127.
+// A step that fails is told as 128 and its refusal.
+const BAD_PHASE: u8 = 128 + 28;
+
+const BAD_MINOR: u8 = 128 + 32;
+
+// A minor brought forward to a phase; a phase over 3 fails, and a minor past 127.
 fn forwarded(minor: u8, phase: u8) -> u8
     requires { ⌜ minor < 128 ⌝ }
-    ensures { λ r. ⌜ r ≡ cond (leb phase 3) (cond (leb (forward minor phase) 127) (forward minor phase) 255) 255 ⌝ }
+    ensures { λ r. ⌜ r ≡ asByte (byPhase minor phase) ⌝ }
 {
     if 3 < phase {
-        return 255;
+        return BAD_PHASE;
     }
     let new = counter::forward(minor as u64, phase as u64);
     if 127 < new {
-        return 255;
+        return BAD_MINOR;
     }
     new as u8
 }
 
-// What ends it at a line that fails: its phase is looked at first.
-fn failure(phase: u8, line: u64) -> Counters
-    ensures { λ r. ⌜ r ≡ cond (leb phase 3) (BadMinor line) (BadPhase line) ⌝ }
+// The step of a line whose stored minor this is: its new minor, or how it fails.
+fn step(array: &[u8], line: usize, minor: u8) -> u8
+    requires { ⌜ (minor < 128) × (72 * line + 72 ≤ length (now array)) ⌝ }
+    ensures { λ r. ⌜ r ≡ asByte (byPhase minor (phaseByte (now (array .entry)) line)) ⌝ }
 {
-    if 3 < phase {
-        return Counters::BadPhase(line);
-    }
-    Counters::BadMinor(line)
+    forwarded(minor, array[72 * line + 64])
 }
 
 // How many lines of a page are brought forward: all, or none where the page is open.
@@ -68,21 +68,24 @@ fn put_block(image: &mut [u8], s: usize, owner: u64, major: u64, minors: &[u8])
     minors::pack(major, minors, at + 9, image);
 }
 
-// Fills the counter slots that have an owner: each block of the array with its minors brought forward to the phases
+// Fills the counter slots that have an owner: each block of the array with its minors brought forward by the cells
 // of their lines, or as it is where its page is open. The first line that fails ends it.
 pub fn rebuild_counters(
     h: usize,
+    keys: &[u8],
     control: &[u8],
     array: &[u8],
     owners: [u64; 10],
     image: &mut [u8],
 ) -> Counters
-    requires { ⌜ (length (now control) ≡ controlLength) × (Sized h (now array) (now image) × Placed h owners) ⌝ }
+    requires { ⌜ (length (now keys) ≡ 48) × ((length (now control) ≡ controlLength)
+        × (Sized h (now array) (now image) × Placed h owners)) ⌝ }
     ensures { λ r. ⌜ counted r (now (image .exit))
-        ≡ rebuildBlocks h (now (control .entry)) (now (array .entry)) 0 (take 4 owners) (now (image .entry)) 0 ⌝ }
+        ≡ rebuildBlocks h (now (keys .entry)) (media (now (array .entry)) (now (control .entry))) 0 (take 4 owners)
+        (now (image .entry)) 0 ⌝ }
 {
     let mut sum: u64 = 0;
-    let mut bad: u8 = 0;
+    let mut number: u64 = 0;
     let mut line: u64 = 0;
     let mut s = 0;
     'slots: while s < 4 {
@@ -90,16 +93,16 @@ pub fn rebuild_counters(
         if owner != 0 {
             let page = owner - 1;
             let block = node::in_cell(array, memory_map::node_cell(h, 0, page));
+            let major = counter::major(block);
             let mut minors = [0u8; 64];
             minors::unpack(block, &mut minors);
             let n = lines_read(control, page);
             let mut j = 0;
             while j < n {
                 let minor = minors[j];
-                let phase = array[72 * (64 * page + j) + 64];
-                let new = forwarded(minor, phase);
+                let new = step(array, 64 * page + j, minor);
                 if 128 <= new {
-                    bad = phase;
+                    number = (new - 128) as u64;
                     line = (64 * page + j) as u64;
                     break 'slots;
                 }
@@ -107,12 +110,12 @@ pub fn rebuild_counters(
                 sum += (new - minor) as u64;
                 j += 1;
             }
-            put_block(image, s, owner as u64, counter::major(block), &minors);
+            put_block(image, s, owner as u64, major, &minors);
         }
         s += 1;
     }
     if s < 4 {
-        return failure(bad, line);
+        return Counters::Failed { number, line };
     }
     Counters::Sum(sum)
 }

@@ -23,8 +23,10 @@ use Rattle.cache.proofs.Laws.{content-same, owner-other, dirty-other, content-o
 use Rattle.cache.proofs.Laws.{dirty-empty, holds-owner, owner-holds, current-cached, current-missing}
 use Rattle.answer.specs.declared.Answer.the-variants.{Done}
 use Rattle.control.specs.Control.{depth, root, isOpen}
-use Rattle.calls.specs.Call.{Module, Called}
-use Rattle.calls.specs.Recovery.{phaseByte, Forwarded, soFar, onward, forwardStep, forwardFrom, forwardPage}
+use Rattle.journal.specs.Journal.{media}
+use Rattle.calls.specs.Call.{Module, Called, mediaOf}
+use Rattle.calls.specs.Recovery.{Step, to, byPhase, phaseByte, Source, lineStep, sourceOf}
+use Rattle.calls.specs.Recovery.{Forwarded, soFar, onward, stepped, forwardFrom, forwardPage}
 use Rattle.calls.specs.Recovery.{rebuildBlock, rebuildSlot, rebuildBlocks, rebuildNode, rebuildNodes, recoverRoot}
 use Rattle.calls.specs.Recovery.{recoverRebuilt, recoverShadow, recoverMedia, refuseAfter}
 use Rattle.calls.specs.Format.{countsFrom, freshNode}
@@ -53,26 +55,28 @@ module _ (S : Setting) (T : Tree) (o : Opening) where
 
 -- ---- minors brought forward
 
-module _ (a : List ℕ) {T : Tree} (small : Small T) where
+module _ (x : Source) {T : Tree} (small : Small T) where
   open Tree T using (count)
 
   -- a minor that the phase of line n brings forward to its count
   record Reaches (n s : ℕ) : Type 0 where
     behind : s ≤ count n
     near : count n ≤ s + 3
-    phase : phaseByte a n ≡ phaseOf (count n)
+    phase : phaseByte (x .array) n ≡ phaseOf (count n)
 
   step-counts : (n s : ℕ) → Reaches n s → (ms : List ℕ) (sum : ℕ)
-      → forwardStep n s (phaseByte a n) ms sum ≡ soFar (ms ++ (count n ∷ [])) (sum + (count n - s))
-  unfolding forwardStep
+      → stepped (lineStep x n s) n s ms sum ≡ soFar (ms ++ (count n ∷ [])) (sum + (count n - s))
+  unfolding stepped byPhase
   step-counts n s r ms sum =
       let reach = forward-reaches s (count n) (r .behind) (r .near) in
-      rw (r .phase, reach, le-leb (phaseOf (count n)) 3 (omega arith), le-leb (count n) 127 (omega (arith, small .minor n)))
+      let made : lineStep x n s ≡ to (count n) =
+      rw (r .phase, reach, le-leb (phaseOf (count n)) 3 (omega arith), le-leb (count n) 127 (omega (arith, small .minor n))) in
+      ap (λ (t : Step). stepped t n s ms sum) made
 
   -- the lines from n on brought forward to their counts, and what these are above the minors
   forward-counts : (n : ℕ) (ss : List ℕ) → ((k : ℕ) → k < length ss → Reaches (n + k) (getD ss k 0)) → (ms : List ℕ) (sum : ℕ)
       → (total ss ≤ total (countsFrom count n (length ss)))
-      × (forwardFrom a n ss ms sum
+      × (forwardFrom x n ss ms sum
       ≡ soFar (ms ++ countsFrom count n (length ss)) (sum + (total (countsFrom count n (length ss)) - total ss)))
   unfolding forwardFrom onward countsFrom total
   forward-counts n [] reaches ms sum = (le-refl 0, ap₂ soFar (sym (append-nil ms)) (omega arith))
@@ -81,9 +85,9 @@ module _ (a : List ℕ) {T : Tree} (small : Small T) where
       let rest = forward-counts (suc n) ss
       (λ k q. subst (λ (j : ℕ). Reaches j (getD ss k 0)) (omega arith) (reaches (suc k) (omega arith)))
       (ms ++ (count n ∷ [])) (sum + (count n - s)) in
-      let stepped = ap (λ (r : Forwarded). onward r (forwardFrom a (suc n) ss)) (step-counts n s here ms sum) in
+      let first = ap (λ (r : Forwarded). onward r (forwardFrom x (suc n) ss)) (step-counts n s here ms sum) in
       let joined = append-assoc ms (count n ∷ []) (countsFrom count (suc n) (length ss)) in
-      (omega (arith, here .behind, rest .0), stepped ∙ rest .1 ∙ ap₂ soFar joined (omega (arith, here .behind, rest .0)))
+      (omega (arith, here .behind, rest .0), first ∙ rest .1 ∙ ap₂ soFar joined (omega (arith, here .behind, rest .0)))
 
 -- ---- sums slot by slot
 
@@ -119,20 +123,24 @@ module _ {S : Setting} {T : Tree} {o : Opening} {a : List ℕ} (m : Durable S T 
   pageSum p = total (countsFrom count (64 * p) 64) - total (minors (block p))
 
   forwarded : {k : List ℕ} → Section o k → (p sum : ℕ) → p < pages h
-      → forwardPage k a p (minors (block p)) sum ≡ soFar (countsFrom count (64 * p) 64) (sum + pageSum p)
+      → forwardPage k (sourceOf keys (media a k) (major (block p))) p (minors (block p)) sum
+      ≡ soFar (countsFrom count (64 * p) 64) (sum + pageSum p)
   unfolding forwardPage pageSum
   forwarded {k} said p sum q = go (isOpen k p) (sym (section-open said p))
     where
       ss : List ℕ
       ss = minors (block p)
 
+      x : Source
+      x = sourceOf keys (media a k) (major (block p))
+
       go : (b : Bool) → opens o p ≡ b
-          → cond b (soFar ss sum) (forwardFrom a (64 * p) ss [] sum) ≡ soFar (countsFrom count (64 * p) 64) (sum + pageSum p)
+          → cond b (soFar ss sum) (forwardFrom x (64 * p) ss [] sum) ≡ soFar (countsFrom count (64 * p) 64) (sum + pageSum p)
       go true e =
           let same = ap minors (m .open-block p q e) ∙ fresh-minors S (m .small) p in
           ap₂ soFar same (omega (arith, ap total same))
       go false e =
-          forward-counts a (m .small) (64 * p) ss
+          forward-counts x (m .small) (64 * p) ss
           (λ j r. let inside : j < 64 = omega (arith, length-minors (block p)) in
           record {
             behind = m .behind p j q inside;
@@ -143,7 +151,7 @@ module _ {S : Setting} {T : Tree} {o : Opening} {a : List ℕ} (m : Durable S T 
           (length-minors (block p))
 
   block-built : {k : List ℕ} → Section o k → (c : List ℕ) (sum s p : ℕ) → p < pages h
-      → rebuildBlock h k a c sum s p ≡ soFar (withSlot c s (suc p) 1 (treeNode S T 0 p)) (sum + pageSum p)
+      → rebuildBlock h keys (media a k) c sum s p ≡ soFar (withSlot c s (suc p) 1 (treeNode S T 0 p)) (sum + pageSum p)
   unfolding rebuildBlock onward freshNode
   block-built said c sum s p q =
       ap (λ (r : Forwarded). onward r (λ ms t. soFar (withSlot c s (suc p) 1 (counterBlock (major (block p)) ms)) t))
@@ -340,7 +348,7 @@ module _ {S : Setting} {T : Tree} {o : Opening} {a : List ℕ} (m : Durable S T 
     pub record BlocksFrom (n s : ℕ) (c : List ℕ) (sum : ℕ) : Type 0 where
       pub cache : List ℕ
       pub told : ℕ
-      pub same : rebuildBlocks h k a s (listing s n) c sum ≡ soFar cache told
+      pub same : rebuildBlocks h keys (media a k) s (listing s n) c sum ≡ soFar cache told
       pub upto : Upto (s + n) cache
       pub adds : told ≡ sum + total (countsFrom (λ t. added (shadowOwner h a t)) s n)
 
@@ -356,25 +364,25 @@ module _ {S : Setting} {T : Tree} {o : Opening} {a : List ℕ} (m : Durable S T 
         }
     blocks-from (suc n) s c sum p u = go (λ d t v. blocks-from n (suc s) d t (omega arith) v) (shadowOwner h a s) refl
       where
-        step : {d : List ℕ} {t : ℕ} → rebuildSlot h k a c sum s (shadowOwner h a s) ≡ soFar d t → t ≡ sum + added (shadowOwner h a s)
+        step : {d : List ℕ} {t : ℕ} → rebuildSlot h keys (media a k) c sum s (shadowOwner h a s) ≡ soFar d t → t ≡ sum + added (shadowOwner h a s)
             → BlocksFrom n (suc s) d t → BlocksFrom (suc n) s c sum
         step e w r =
             record {
               cache = r .cache;
               told = r .told;
-              same = ap (λ (x : Forwarded). onward x (rebuildBlocks h k a (suc s) (listing (suc s) n))) e ∙ r .same;
+              same = ap (λ (x : Forwarded). onward x (rebuildBlocks h keys (media a k) (suc s) (listing (suc s) n))) e ∙ r .same;
               upto = subst (λ (k : ℕ). Upto k (r .cache)) (omega arith) (r .upto);
               adds = adds-step (λ t. added (shadowOwner h a t)) s n sum _ (r .told) w (r .adds);
             }
 
         go : ((d : List ℕ) (t : ℕ) → Upto (suc s) d → BlocksFrom n (suc s) d t) → (i : ℕ) → shadowOwner h a s ≡ i
             → BlocksFrom (suc n) s c sum
-        go others zero e = step (ap (rebuildSlot h k a c sum s) e) (owner-none (shadowOwner h a s) sum e) (others c sum (skipped s c e u))
+        go others zero e = step (ap (rebuildSlot h keys (media a k) c sum s) e) (owner-none (shadowOwner h a s) sum e) (others c sum (skipped s c e u))
         go others (suc i) e =
             let level : levelOf s ≡ 0 = level-low s (omega arith) in
             let index : i < nodes h 0 = subst (λ (k : ℕ). i < nodes h k) level (listed-node s i (omega arith) e .0) in
             let page : i < pages h = omega (arith, index, nodes-bottom h) in
-            step (ap (rebuildSlot h k a c sum s) e ∙ block-built said c sum s i page) (owner-some (shadowOwner h a s) i sum e)
+            step (ap (rebuildSlot h keys (media a k) c sum s) e ∙ block-built said c sum s i page) (owner-some (shadowOwner h a s) i sum e)
             (others (withSlot c s (suc i) 1 (treeNode S T 0 i)) _
             (filled s i c (treeNode S T 0 i) (omega arith) e (ap (λ (k : ℕ). treeNode S T k i) (sym level)) u))
 
@@ -445,7 +453,7 @@ module _ {S : Setting} {T : Tree} {o : Opening} (x : Module) (deep : depth (x .c
       ap (λ (d : ℕ). recoverShadow keys k x (shadowOwners d a) (badSlot d (shadowOwners d a))) deep
       ∙ ap (recoverShadow keys k x os) (not-bad h (shadowOwner h a) (m .owners))
       ∙ ap (recoverRebuilt keys k x os)
-      (ap₂ (λ (d : ℕ) (l : List ℕ). rebuildBlocks d (x .control) a 0 l (emptyCache d) 0) deep counter-slots ∙ blocks m said .same)
+      (ap₂ (λ (d : ℕ) (l : List ℕ). rebuildBlocks d keys (mediaOf x) 0 l (emptyCache d) 0) deep counter-slots ∙ blocks m said .same)
       ∙ ap₂ (λ (d : ℕ) (l : List ℕ). recoverRoot keys k x (blocks m said .told) (rebuildNodes d keys a 4 l (blocks m said .cache)))
       deep node-slots
       ∙ root-right (blocks m said .told)

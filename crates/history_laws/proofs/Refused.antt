@@ -24,7 +24,7 @@ use Rattle.calls.specs.Read.{blankText, answered, refusedRead, lineMinor, sideO
 use Rattle.calls.specs.Write.{writeStores, writtenCache, writeLoaded, writePath, writeJudged, write}
 use Rattle.calls.specs.Turn.{turnRefusal, blockOf, turnPlaces, badLine, turnBatches, storesFor, turnedCache}
 use Rattle.calls.specs.Turn.{turnChecked, turnLoaded, turnPath, turnJudged, turn, pagePath}
-use Rattle.calls.specs.Recovery.{refuseAfter, Forwarded, soFar, badPhase, badMinor, refusalOf, rebuildBlocks, rebuildNodes}
+use Rattle.calls.specs.Recovery.{refuseAfter, Forwarded, soFar, failed, rebuildBlocks, rebuildNodes}
 use Rattle.calls.specs.Recovery.{recoveryRefusal, recoverRoot, recoverRebuilt, recoverShadow, recoverMedia, recoverJudged, recover}
 use Rattle.history_laws.proofs.Outcome.{no-elements, madeStores, cutAmong, cases}
 
@@ -161,14 +161,13 @@ module _ (keys : List ℕ) (k : ℕ) (x : Module) where
 
   left-rebuilt : (os : List ℕ) (r : Forwarded) → Left k x (recoverRebuilt keys k x os r)
   unfolding recoverRebuilt
-  left-rebuilt os (badPhase n) = left-refused k x (refusalOf (badPhase n)) n
-  left-rebuilt os (badMinor n) = left-refused k x (refusalOf (badMinor n)) n
+  left-rebuilt os (failed i n) = left-refused k x i n
   left-rebuilt os (soFar d sum) = left-root sum (rebuildNodes h keys (x .array) 4 (drop 4 os) d)
 
   left-shadow : (os : List ℕ) (r : Found) → Left k x (recoverShadow keys k x os r)
   unfolding recoverShadow
   left-shadow os (At s) = left-refused k x 27 s
-  left-shadow os Nothing = left-rebuilt os (rebuildBlocks h (x .control) (x .array) 0 (take 4 os) (emptyCache h) 0)
+  left-shadow os Nothing = left-rebuilt os (rebuildBlocks h keys (mediaOf x) 0 (take 4 os) (emptyCache h) 0)
 
   left-media : Left k x (recoverMedia keys k x)
   left-media = left-shadow (shadowOwners h (x .array)) (badSlot h (shadowOwners h (x .array)))

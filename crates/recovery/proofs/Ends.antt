@@ -106,13 +106,13 @@ module _ (keys : List ℕ) (k : ℕ) (m : Module) (os : List ℕ) where
 
     pub ends-rebuilt : f ≡ Nothing → {c : List ℕ} → c ≡ emptyCache (depth (m .control))
         → recoverRebuilt keys k m first
-        (rebuildBlocks (depth (m .control)) (m .control) (m .array) 0 (take 4 os) c 0) ≡ recoverMedia keys k m
+        (rebuildBlocks (depth (m .control)) keys (mediaOf m) 0 (take 4 os) c 0) ≡ recoverMedia keys k m
     unfolding recoverShadow slots
     ends-rebuilt e {c} empty =
         let h = depth (m .control) in
         let four : take 4 os ≡ take 4 first = sym (take-take 4 (slots h) os (omega arith)) in
-        ap₂ {C = Called} (λ (l i : List ℕ). recoverRebuilt keys k m first (rebuildBlocks h (m .control) (m .array) 0 l i 0)) four empty
-        ∙ ap (λ (l : List ℕ). recoverRebuilt keys k m l (rebuildBlocks h (m .control) (m .array) 0 (take 4 l) (emptyCache h) 0)) listed
+        ap₂ {C = Called} (λ (l i : List ℕ). recoverRebuilt keys k m first (rebuildBlocks h keys (mediaOf m) 0 l i 0)) four empty
+        ∙ ap (λ (l : List ℕ). recoverRebuilt keys k m l (rebuildBlocks h keys (mediaOf m) 0 (take 4 l) (emptyCache h) 0)) listed
         ∙ sym (as-found e)
 
 -- ---- the call

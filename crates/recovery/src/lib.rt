@@ -4,6 +4,7 @@ ghost use lib.ListN.{length, take};
 ghost use Rattle.memory_map.specs.Map.{slots as slotsOf};
 ghost use Rattle.control.specs.Control.{controlLength, depth as depthOf};
 ghost use Rattle.node.specs.Sized.{Sized};
+ghost use Rattle.journal.specs.Journal.{media};
 ghost use Rattle.calls.specs.Call.{buffers, ended};
 ghost use Rattle.calls.specs.Recovery.{soFar, rebuildBlocks, recoverRebuilt, recoverMedia, recover as recoverOf};
 ghost use Rattle.recovery.specs.Lent.{Lent};
@@ -53,17 +54,16 @@ fn rebuild(
     ensures { λ r. ⌜ ended r (now (array .entry)) (now (control .entry)) (now (cache .exit))
         ≡ recoverRebuilt (now (keys .entry)) stores (buffers (now (array .entry)) (now (control .entry)) (now (cache .entry)))
         (take (slotsOf (depthOf (now (control .entry)))) owners)
-        (rebuildBlocks (depthOf (now (control .entry))) (now (control .entry)) (now (array .entry)) 0 (take 4 owners)
-        (now (image .entry)) 0) ⌝ }
+        (rebuildBlocks (depthOf (now (control .entry))) (now (keys .entry)) (media (now (array .entry)) (now (control .entry))) 0
+        (take 4 owners) (now (image .entry)) 0) ⌝ }
 {
     let h = control::depth(control);
-    let counters = forwarding::rebuild_counters(h, control, array, owners, image);
+    let counters = forwarding::rebuild_counters(h, keys, control, array, owners, image);
     match counters {
         Counters::Sum(sum) => {
             rebuild_tree(h, keys, control, array, owners, stores, sum, image, cache)
         }
-        Counters::BadPhase(line) => refuse_after(stores, 28, line, 0),
-        Counters::BadMinor(line) => refuse_after(stores, 32, line, 0),
+        Counters::Failed { number, line } => refuse_after(stores, number, line, 0),
     }
 }
 

@@ -3,10 +3,10 @@ use mathlib.Core.Path.{_≡_, refl}
 use Rattle.words.specs.Bytes.{number, digits}
 use Rattle.counter.specs.Counter.{major, minors, counterBlock, withMinor, forward}
 use Rattle.memory_map.specs.Map.{pages, lines, nodes, levelStart, slots, shadowStart, cellOf}
-use Rattle.calls.specs.Recovery.{refusalOf, forwardStep}
-use Rattle.worked_examples.specs.Table.{table, computedColumn, saidColumn}
+use Rattle.calls.specs.Recovery.{byPhase}
+use Rattle.worked_examples.specs.Table.{refusalOf, table, computedColumn, saidColumn}
 
 pub checked : computedColumn table ≡ saidColumn table
-unfolding table computedColumn saidColumn number digits major minors counterBlock withMinor forward refusalOf forwardStep pages lines nodes
+unfolding table computedColumn saidColumn number digits major minors counterBlock withMinor forward byPhase refusalOf pages lines nodes
     levelStart slots shadowStart cellOf
 checked = refl

@@ -5,11 +5,16 @@ use lib.ListN.{getD, replicate}
 use Rattle.counter.specs.Counter.{forward, withMinor}
 use Rattle.memory_map.specs.Map.{cellOf}
 use Rattle.memory_map.specs.Map.Item.{line, node, shadow}
-use Rattle.calls.specs.Recovery.{refusalOf, forwardStep}
+use Rattle.calls.specs.Recovery.{Step, to, bad, byPhase}
 
--- the refusal of a minor and a phase, 0 where there is none, and the minor brought forward
+-- the refusal of a step, 0 where there is none
+unfoldable pub refusalOf : Step → ℕ
+refusalOf (to v) = 0
+refusalOf (bad k) = k
+
+-- that of a minor and a phase, and the minor brought forward
 abbrev pub brought : ℕ → ℕ → List ℕ
-brought s p = refusalOf (forwardStep 0 s p [] 0) ∷ forward s p ∷ []
+brought s p = refusalOf (byPhase s p) ∷ forward s p ∷ []
 
 -- 64 zero bytes with 127 as minor 1
 abbrev pub block : List ℕ

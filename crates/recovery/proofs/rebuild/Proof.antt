@@ -5,8 +5,9 @@ use borrow.Author.Needs.{needs}
 use lib.ListN.{take}
 use Rattle.memory_map.specs.Map.{slots}
 use Rattle.control.specs.Control.{depth}
+use Rattle.journal.specs.Journal.{media}
 use Rattle.calls.specs.Call.{Module, buffers}
-use Rattle.calls.specs.Recovery.{refusalOf, rebuildBlocks, recoverRebuilt}
+use Rattle.calls.specs.Recovery.{rebuildBlocks, recoverRebuilt}
 use Rattle.forwarding.specs.Rebuild.{counted}
 use Rattle.forwarding.specs.declared.Counters.{Counters}
 use Rattle.recovery.proofs.Ends.{sized-as, placed-as, refused-as}
@@ -25,8 +26,10 @@ depth-requires c κs = search needs
 rebuild-counters-requires : tie.Need-rebuild-counters-requires
 rebuild-counters-requires c κs =
     let at = c .before in
-    let l = start at .pre in
-    (l .control-length, (sized-as _ (at .depth .ensures) _ _ _ (l .sized) refl, placed-as _ (at .depth .ensures) _ (l .placed)))
+    let l = start at .pre in (
+      l .keys-length,
+      (l .control-length, (sized-as _ (at .depth .ensures) _ _ _ (l .sized) refl, placed-as _ (at .depth .ensures) _ (l .placed))),
+    )
 
 enum-known-counters : tie.Need-enum-known-counters
 enum-known-counters c = search needs
@@ -35,15 +38,16 @@ enum-known-counters c = search needs
 ends-as : (c : tie.After-rebuild-counters) {r : Counters} → c .rebuild-counters .result ≡ r
     → let a = start (c .before .before) .args in let h = depth (a .control .now) in
     recoverRebuilt (a .keys .now) (a .stores) (given (c .before .before)) (take (slots h) (a .owners))
-    (counted r (c .rebuild-counters .last .1 .1 .1 .1 .0))
+    (counted r (c .rebuild-counters .last .1 .1 .1 .1 .1 .0))
     ≡ recoverRebuilt (a .keys .now) (a .stores) (given (c .before .before)) (take (slots h) (a .owners))
-    (rebuildBlocks h (a .control .now) (a .array .now) 0 (take 4 (a .owners)) (a .image .now) 0)
+    (rebuildBlocks h (a .keys .now) (media (a .array .now) (a .control .now)) 0 (take 4 (a .owners)) (a .image .now) 0)
 ends-as c e =
     let at = c .before .before in
     let a = start at .args in
     ap (recoverRebuilt (a .keys .now) (a .stores) (given at) (take (slots (depth (a .control .now))) (a .owners)))
-    (ap (λ (r : Counters). counted r (c .rebuild-counters .last .1 .1 .1 .1 .0)) (sym e) ∙ c .rebuild-counters .ensures
-    ∙ ap (λ (n : ℕ). rebuildBlocks n (a .control .now) (a .array .now) 0 (take 4 (a .owners)) (a .image .now) 0) (at .depth .ensures))
+    (ap (λ (r : Counters). counted r (c .rebuild-counters .last .1 .1 .1 .1 .1 .0)) (sym e) ∙ c .rebuild-counters .ensures
+    ∙ ap (λ (n : ℕ). rebuildBlocks n (a .keys .now) (media (a .array .now) (a .control .now)) 0 (take 4 (a .owners)) (a .image .now) 0)
+    (at .depth .ensures))
 
 -- the counters, seen from the tree
 abbrev found : tie.After-known-told → tie.After-rebuild-counters
@@ -54,7 +58,7 @@ rebuild-tree-requires c κs =
     let counters = found (c .before .before) in
     let at = counters .before .before in
     let l = start at .pre in
-    let kept = counters .rebuild-counters .kept .1 .1 .1 .1 .0 in (
+    let kept = counters .rebuild-counters .kept .1 .1 .1 .1 .1 .0 in (
       at .depth .ensures,
       record {
         keys-length = l .keys-length;
@@ -70,12 +74,6 @@ enum-known-counters-2 c = search needs
 
 refuse-after-requires : tie.Need-refuse-after-requires
 refuse-after-requires c κs = search needs
-
-enum-known-counters-3 : tie.Need-enum-known-counters-3
-enum-known-counters-3 c = search needs
-
-refuse-after-requires-2 : tie.Need-refuse-after-requires-2
-refuse-after-requires-2 c κs = search needs
 
 same-length : tie.Need-same-length
 same-length c = search needs
@@ -94,21 +92,11 @@ same-length-3 : tie.Need-same-length-3
 same-length-3 c = search needs
 
 returns-2 : tie.Need-returns-2
-unfolding counted recoverRebuilt refusalOf
+unfolding counted recoverRebuilt
 returns-2 c =
     let told = c .before in
     let counters = told .before .before .before .before .before in
     refused-as (given (counters .before .before)) (ends-as counters (told .before .counters2 .given .1)) (c .refuse-after .ensures)
-
-same-length-4 : tie.Need-same-length-4
-same-length-4 c = search needs
-
-returns-3 : tie.Need-returns-3
-unfolding counted recoverRebuilt refusalOf
-returns-3 c =
-    let told = c .before in
-    let counters = told .before .before .before .before .before in
-    refused-as (given (counters .before .before)) (ends-as counters (told .before .counters3 .given .1)) (c .refuse-after2 .ensures)
 
 pub rebuild-spec : {M : Type 1} → statement M
 rebuild-spec =
@@ -120,12 +108,8 @@ rebuild-spec =
     rebuild-tree-requires
     enum-known-counters-2
     refuse-after-requires
-    enum-known-counters-3
-    refuse-after-requires-2
     same-length
     same-length-2
     returns
     same-length-3
-    returns-2
-    same-length-4
-    returns-3)
+    returns-2)
