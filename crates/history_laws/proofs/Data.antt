@@ -1,25 +1,23 @@
--- The data cell of a line: its bytes at the counter that a tree has for the line, its phase, and the text that they give back.
+-- The data cell of a line: its bytes at the counter that a tree has for the line, and the text that they give back.
 -- Assumes nothing.
 use mathlib.Core.Path.{_≡_, sym, ap, ap₂, _∙_}
 use mathlib.Core.Bool.{true}
 use mathlib.Core.List.{List, _++_}
 use Prim.Native.Nat.{ℕ, _+_, _*_}
 use native.Mathlib.Omega.{arith}
-use lib.Dec.{lit<, lit≤}
-use lib.ListN.{length, getD, take, drop}
+use lib.Dec.{lit≤}
+use lib.ListN.{length, take, drop}
 use lib.Seq.{take-at, take-take}
 use Rattle.words.specs.Bytes.{part}
-use Rattle.words.proofs.Puts.{getD-part}
 use Rattle.memory_map.specs.Map.{pageOf}
-use Rattle.counter.specs.Counter.{major, phaseOf}
+use Rattle.counter.specs.Counter.{major}
 use Rattle.pad.specs.Pad.{pad, xorBytes}
 use Rattle.pad.proofs.Xor.{length-xor, xor-back}
 use Rattle.pad.proofs.Nonce.{length-pad}
 use Rattle.side.specs.Side.{sideBytes, sideFits}
-use Rattle.side.proofs.Laws.{length-cell, side-fits, phase-in as phase-beside}
+use Rattle.side.proofs.Laws.{length-cell, side-fits}
 use Rattle.cache.specs.Cache.{cellContent}
 use Rattle.calls.specs.Read.{sideOk, lineText, pageBlock, lineMinor}
-use Rattle.calls.specs.Recovery.{phaseByte}
 use Rattle.history_laws.proofs.Setting.{Setting, Tree, padOf, cipherOf, sideOf}
 
 -- the bytes of line n's cell, with a text
@@ -40,14 +38,6 @@ module _ (S : Setting) (T : Tree) (n : ℕ) (text : List ℕ) (full : length tex
   pub length-data : length (dataBytes S T n text) ≡ 72
   unfolding dataBytes
   length-data = length-cell (S .keys) (cipherOf S T n text) n (T .major (pageOf n)) (T .count n) length-cipher
-
-  pub phase-data : getD (dataBytes S T n text) 64 0 ≡ phaseOf (T .count n)
-  unfolding dataBytes
-  phase-data = phase-beside (S .keys) (cipherOf S T n text) n (T .major (pageOf n)) (T .count n) length-cipher
-
--- a phase is byte 64 of its line's cell
-pub phase-in : (a : List ℕ) (x : ℕ) → phaseByte a x ≡ getD (part a (72 * x) 72) 64 0
-phase-in a x = sym (getD-part a (72 * x) 72 64 (lit< tt))
 
 -- ---- the text
 

@@ -17,9 +17,9 @@ use Rattle.history_laws.proofs.Setting.{Setting, Tree, Small, Alike, tr
 use Rattle.history_laws.proofs.Setting.{Opening, closed, among, opens, isDone, turnedTree, sealed}
 use Rattle.history_laws.proofs.Tree.{fresh-major, fresh-minors, fresh-minor}
 use Rattle.history_laws.proofs.Opening.{turned-major, turned-count, turned-agree, sealed-tree, Still, left-alike}
-use Rattle.history_laws.proofs.Recovered.{Durable}
+use Rattle.history_laws.proofs.Durable.{Durable}
 use Rattle.history_laws.proofs.Reached.{Reached, Blocked, page-cases, owners-new, stored-new}
-use Rattle.history_laws.proofs.State.{CellOk, cell-moved, Keeps}
+use Rattle.history_laws.proofs.State.{RowOk, row-moved, Keeps}
 
 pub turned-fresh : (S : Setting) {T : Tree} → Small T → (p : ℕ) → turned (treeNode S T 0 p) ≡ treeNode S (turnedTree T p) 0 p
 unfolding turned freshNode countsFrom
@@ -45,9 +45,9 @@ module _ {S : Setting} {b : Book} {o : Opening} {a c : List ℕ} {p : ℕ} (k : 
 
   -- a line that is not among those still to turn, and whose cell stays
   pub cell-kept : {js : List ℕ} → Still T o p js → (d : List ℕ) (n : ℕ) → n < lines h
-      → (pageOf n ≡ p → among (placeOf n) js ≡ false) → part d (72 * n) 72 ≡ part a (72 * n) 72 → CellOk S U n (b .text n) d
+      → (pageOf n ≡ p → among (placeOf n) js ≡ false) → part d (72 * n) 72 ≡ part a (72 * n) 72 → RowOk S U n (b .text n) d
   cell-kept s d n q left same =
-      cell-moved S (go (eq-or-not (pageOf n) p)) a d (b .text n) same (k .rows n q, k .durable .phases n q)
+      row-moved S (go (eq-or-not (pageOf n) p)) a d (b .text n) same (k .rows n q)
     where
       go : (pageOf n ≡ p) ⊎ (pageOf n ≡ p → ⊥) → Alike (sealed o T n) U n
       go (inl e) = left-alike s n e (left e)
@@ -72,7 +72,7 @@ module _ {S : Setting} {b : Book} {o : Opening} {a c : List ℕ} {p : ℕ} (k : 
         counts n (inr e) = omega (arith, turned-agree T p (pageOf n) e .count n refl, small .minor n)
 
     -- an array with the new block, and cells that are the turned tree's
-    module _ {d : List ℕ} (x : Blocked w (turned-agree T p) true d) (cells : (n : ℕ) → n < lines h → CellOk S U n (b .text n) d) where
+    module _ {d : List ℕ} (x : Blocked w (turned-agree T p) true d) (cells : (n : ℕ) → n < lines h → RowOk S U n (b .text n) d) where
       other-page : {q : ℕ} → (q ≡ p → true ≡ false) → q ≡ p → ⊥
       other-page e z = false≢true (sym (e z))
 
@@ -95,10 +95,10 @@ module _ {S : Setting} {b : Book} {o : Opening} {a c : List ℕ} {p : ℕ} (k : 
                 (λ e. omega (arith, fresh-minor S U-small q j l))
                 (λ e. subst (λ (i : ℕ). i ≤ minor (nodeIn S a 0 q) j + lag i)
                 (same q (other-page e) .count (64 * q + j) (omega arith)) (old .near q j r l));
-            phases = λ n q. cells n q .1;
             open-block = λ q r e. absurd (false≢true e);
+            spare = x .spare;
           }
 
       pub keeps-last : Keeps S (turnEntered true p b) closed d
       unfolding turnEntered isDone
-      keeps-last = record { durable = durable-last; rows = λ n q. cells n q .0 }
+      keeps-last = record { durable = durable-last; rows = cells }

@@ -17,7 +17,7 @@ use Rattle.history_laws.specs.History.{emptyBook}
 use Rattle.call_laws.proofs.Fresh.{array-length, array-bytes, control-length, control-bytes}
 use Rattle.history_laws.proofs.Setting.{Setting, treeRoot, closed, isDone, Says}
 use Rattle.history_laws.proofs.Tree.{tree-tag}
-use Rattle.history_laws.proofs.Formatted.{noWrites, formatted-durable, none-listed}
+use Rattle.history_laws.proofs.Formatted.{noWrites, formatted-durable, none-listed, no-data}
 use Rattle.history_laws.proofs.State.{RowOk, Settled, Ready, settled-holds}
 
 -- ---- the control record of a format
@@ -70,7 +70,7 @@ module _ (S : Setting) where
           valid = sym (turn-none (freshControl h top) (sym (turn-count-at (freshControl h top)) ∙ fresh-turn h top));
           says = fresh-turn h top;
         };
-        keeps = record { durable = formatted-durable S; rows = λ n p. refl };
+        keeps = record { durable = formatted-durable S; rows = λ n p. (refl, no-data S n p) };
         top = fresh-root h top word;
       }
 

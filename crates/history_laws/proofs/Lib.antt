@@ -1,6 +1,9 @@
 pub mod Setting
 pub mod Tree
 pub mod Opening
+pub mod Fitting
+pub mod Durable
+pub mod Brought
 pub mod Recovered
 pub mod Told
 pub mod Formatted

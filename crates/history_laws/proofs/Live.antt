@@ -25,7 +25,7 @@ use Rattle.calls.specs.Path.{evicted, nodeCell}
 use Rattle.call_laws.proofs.Loads.{Fit}
 use Rattle.history_laws.proofs.Setting.{Setting, Tree, treeNode, nodeIn, Opening}
 use Rattle.history_laws.proofs.Tree.{tree-length}
-use Rattle.history_laws.proofs.Recovered.{Durable}
+use Rattle.history_laws.proofs.Durable.{Durable}
 use Rattle.history_laws.proofs.Stores.{with-node, node-same, other-level, node-lines, shadow-kept, fresh-kept, node-durable}
 use Rattle.history_laws.proofs.Stores.{Vacant, shadow-lines, listed-same, listed-other, nodes-kept, shadow-durable}
 

@@ -11,22 +11,22 @@ use lib.ListN.{length, replicate}
 use lib.Seq.{take-at}
 use Rattle.words.specs.Bytes.{part, put}
 use Rattle.words.proofs.Order.{eq-or-not}
-use Rattle.memory_map.specs.Map.{pages, lines, nodes, slots, arrayLength, cellOf, onPath}
+use Rattle.memory_map.specs.Map.{pages, lines, nodes, slots, arrayLength, cellOf, onPath, InMap, Item}
 use Rattle.memory_map.specs.Map.Item.{line, node}
 use Rattle.memory_map.proofs.Laws.{path-bottom, path-top}
 use Rattle.slot_map.specs.Slots.{slotOf}
 use Rattle.slot_map.proofs.Laws.{slot-within, level-slot}
 use Rattle.counter.specs.Counter.{major, minor}
 use Rattle.control.specs.Control.{Cell}
-use Rattle.cache.specs.Cache.{owner, content, shadowOwner, cellContent}
+use Rattle.cache.specs.Cache.{owner, content, shadowOwner, cellBytes, cellContent}
 use Rattle.cache.proofs.Laws.{owned-same, Owned}
 use Rattle.journal.proofs.Again.{put-cells}
 use Rattle.calls.specs.Path.{nodeCell, renewPath, renewedRoot}
 use Rattle.history_laws.proofs.Setting.{Setting, Tree, Agree, treeNode, treeRoot, nodeIn, tagOf, Opening}
 use Rattle.history_laws.proofs.Tree.{tree-length, fresh-major, fresh-minor, Path, off-path, renewed-fresh}
-use Rattle.history_laws.proofs.Recovered.{Durable}
+use Rattle.history_laws.proofs.Durable.{Spare, Durable}
 use Rattle.history_laws.proofs.Stores.{kind, first, second, page-in, Put, length-after, same-part, nodeBytes, node-put}
-use Rattle.history_laws.proofs.Stores.{node-apart, lines-apart, nodes-apart, shadows-apart}
+use Rattle.history_laws.proofs.Stores.{node-apart, lines-apart, nodes-apart, shadows-apart, spare-put, node-spare}
 use Rattle.history_laws.proofs.Live.{Live}
 use Rattle.history_laws.proofs.Renewed.{Renewal, live-renewed}
 
@@ -74,6 +74,7 @@ module _ {S : Setting} {T : Tree} {o : Opening} {a c : List ℕ} {p : ℕ} (w : 
       pub others : (k i : ℕ) → k ≤ h → i < nodes h k → (node k i ≡ node 0 p → ⊥) → nodeIn S b k i ≡ nodeIn S a k i
       pub now : stop ≡ true → nodeIn S b 0 p ≡ treeNode S U 0 p
       pub stay : stop ≡ false → nodeIn S b 0 p ≡ nodeIn S a 0 p
+      pub spare : (x : Item) → InMap h x → Spare x (cellBytes b (cellOf h x))
 
     there : Put h a (node 0 p) (nodeBytes S U 0 p)
     there = node-put S U a 0 p (v .durable .whole) zero-le (page-in h p page)
@@ -88,6 +89,7 @@ module _ {S : Setting} {T : Tree} {o : Opening} {a c : List ℕ} {p : ℕ} (w : 
           now = λ e. same-part there 64 (omega arith)
               ∙ take-at (treeNode S U 0 p) (replicate 8 0) 64 (tree-length S U 0 p);
           stay = λ e. absurd (false≢true (sym e));
+          spare = spare-put there (v .durable .spare) (node-spare S U 0 p);
         }
     blocked false =
         record {
@@ -96,6 +98,7 @@ module _ {S : Setting} {T : Tree} {o : Opening} {a c : List ℕ} {p : ℕ} (w : 
           others = λ k i q r e. refl;
           now = λ e. absurd (false≢true e);
           stay = λ e. refl;
+          spare = v .durable .spare;
         }
 
     pub block-rows : (stop : Bool) (x : ℕ) → x < lines h → part (put-cells a (blockCells S U p stop)) (72 * x) 72 ≡ part a (72 * x) 72
@@ -111,7 +114,7 @@ module _ {S : Setting} {T : Tree} {o : Opening} {a c : List ℕ} {p : ℕ} (w : 
         nodes-same = nodes-apart u (λ (z : _≡_ {A = ℕ} 0 1). omega arith)
 
         pub with-line : Blocked stop (put b (72 * cellOf h (line n)) bytes)
-        unfolding kind
+        unfolding kind Spare
         with-line =
             let own = nodes-same 0 p zero-le (page-in h p page) in
             record {
@@ -120,6 +123,7 @@ module _ {S : Setting} {T : Tree} {o : Opening} {a c : List ℕ} {p : ℕ} (w : 
               others = λ l i q r e. nodes-same l i q r ∙ k .others l i q r e;
               now = λ e. own ∙ k .now e;
               stay = λ e. own ∙ k .stay e;
+              spare = spare-put u (k .spare) tt;
             }
 
       -- a page's block: the new one where it is stored, else that of a

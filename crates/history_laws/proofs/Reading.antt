@@ -81,7 +81,7 @@ module _ {S : Setting} {b : Book} {o : Opening} {m : Module} {n : ℕ} (w : Acce
         → read keys n allowance out m ≡ answered allowance m stores (Blank (length stores)) (walk .cache) blankText out
     unfolding readLoaded chosen RowOk
     reads-blank e =
-        let none-yet : b .count n ≡ 0 = subst (λ (x : Option (List ℕ)). RowOk S (treeOf b) n x (m .array)) e row-is in
+        let none-yet : b .count n ≡ 0 = subst (λ (x : Option (List ℕ)). RowOk S (treeOf b) n x (m .array)) e row-is .0 in
         opened ∙ ap (λ (x : Bool). chosen x (sideOk keys (m .array) (walk .cache) n))
         (eq-eqb (lineMinor (walk .cache) n) 0 (minor-is ∙ none-yet))
 

@@ -1,93 +1,38 @@
--- Recovery from what a power failure leaves: where the array has a fresh tree but for what the shadow lists, and phases that bring the
+-- Recovery from what a power failure leaves: where the array has a fresh tree but for what the shadow lists, and cells that bring the
 -- listed blocks forward to its counts, the rebuilt cache gives every block and node of that tree. Assumes nothing.
 use mathlib.Core.Path.{_≡_, refl, sym, ap, ap₂, _∙_, subst}
 use mathlib.Core.Logic.{_⊎_, inl, inr}
 use mathlib.Core.Bool.{Bool, true, false, cond, false≢true}
-use mathlib.Core.List.{List, [], _∷_, _++_, append-nil, append-assoc}
+use mathlib.Core.List.{List}
 use Prim.Native.Nat.{ℕ, zero, suc, _+_, _-_, _*_, _/_, _^_, _≤_, _<_}
 use native.Mathlib.Nat.{le-refl, add-zero}
 use native.Mathlib.Omega.{arith}
-use borrow.Author.Tests.{le-leb, eq-eqb}
-use lib.ListN.{length, getD, take, drop}
+use borrow.Author.Tests.{eq-eqb}
+use lib.ListN.{length, take, drop}
 use Rattle.words.proofs.Order.{eq-or-not}
-use Rattle.memory_map.specs.Map.{pageOf, pages, lines, nodes, slots, arrayLength}
+use Rattle.memory_map.specs.Map.{pages, nodes, slots}
 use Rattle.memory_map.proofs.Laws.{nodes-small, nodes-below, nodes-bottom, nodes-some}
 use Rattle.slot_map.specs.Slots.{cacheLength, slotOf, levelOf}
 use Rattle.slot_map.proofs.Laws.{slot-within, level-slot, level-low, level-high, level-within, belongs-node}
-use Rattle.counter.specs.Counter.{major, minors, minor, counterBlock, phaseOf, lag}
-use Rattle.counter.proofs.Laws.{length-minors, forward-reaches}
 use Rattle.cache.specs.Cache.{owner, dirty, content, shadowOwner, shadowOwners, withSlot}
 use Rattle.cache.specs.Cache.{badSlot, emptyCache, from, holds, current}
-use Rattle.cache.proofs.Laws.{Owned, owned-same, Formed, not-bad, length-with, owner-same, dirty-same}
+use Rattle.cache.proofs.Laws.{owned-same, Formed, not-bad, length-with, owner-same, dirty-same}
 use Rattle.cache.proofs.Laws.{content-same, owner-other, dirty-other, content-other, length-empty, owner-empty}
 use Rattle.cache.proofs.Laws.{dirty-empty, holds-owner, owner-holds, current-cached, current-missing}
 use Rattle.answer.specs.declared.Answer.the-variants.{Done}
-use Rattle.control.specs.Control.{depth, root, isOpen}
-use Rattle.journal.specs.Journal.{media}
+use Rattle.control.specs.Control.{depth, root}
 use Rattle.calls.specs.Call.{Module, Called, mediaOf}
-use Rattle.calls.specs.Recovery.{Step, to, byPhase, phaseByte, Source, lineStep, sourceOf}
-use Rattle.calls.specs.Recovery.{Forwarded, soFar, onward, stepped, forwardFrom, forwardPage}
-use Rattle.calls.specs.Recovery.{rebuildBlock, rebuildSlot, rebuildBlocks, rebuildNode, rebuildNodes, recoverRoot}
+use Rattle.calls.specs.Recovery.{Forwarded, soFar, onward, rebuildSlot, rebuildBlocks, rebuildNode, rebuildNodes, recoverRoot}
 use Rattle.calls.specs.Recovery.{recoverRebuilt, recoverShadow, recoverMedia, refuseAfter}
 use Rattle.calls.specs.Format.{countsFrom, freshNode}
 use Rattle.history_laws.specs.History.{total}
 use Rattle.calls.specs.Path.{childTags}
 use Rattle.call_laws.proofs.Tags.{tags-agree}
-use Rattle.history_laws.proofs.Setting.{Setting, Tree, Small, treeNode, treeRoot, nodeIn, tagOf, Opening, opens, sealed, Section}
-use Rattle.history_laws.proofs.Tree.{tree-length, fresh-minors}
-use Rattle.history_laws.proofs.Opening.{section-open, not-done, sealed-tree}
-
--- what an array keeps of a tree, and of a turn that is not finished
-module _ (S : Setting) (T : Tree) (o : Opening) where
-  open Setting S using (h)
-  open Tree T using (count)
-
-  pub record Durable (a : List ℕ) : Type 0 where
-    pub whole : length a ≡ arrayLength h
-    pub small : Small T
-    pub owners : Owned h (shadowOwner h a)
-    pub stored : (l i : ℕ) → l ≤ h → i < nodes h l → (shadowOwner h a (slotOf l i) ≡ suc i → ⊥) → nodeIn S a l i ≡ treeNode S T l i
-    pub majors : (p : ℕ) → p < pages h → major (nodeIn S a 0 p) ≡ T .major p
-    pub behind : (p j : ℕ) → p < pages h → j < 64 → minor (nodeIn S a 0 p) j ≤ count (64 * p + j)
-    pub near : (p j : ℕ) → p < pages h → j < 64 → count (64 * p + j) ≤ minor (nodeIn S a 0 p) j + lag (count (64 * p + j))
-    pub phases : (n : ℕ) → n < lines h → phaseByte a n ≡ phaseOf (sealed o T n .count n)
-    pub open-block : (p : ℕ) → p < pages h → opens o p ≡ true → nodeIn S a 0 p ≡ treeNode S T 0 p
-
--- ---- minors brought forward
-
-module _ (x : Source) {T : Tree} (small : Small T) where
-  open Tree T using (count)
-
-  -- a minor that the phase of line n brings forward to its count
-  record Reaches (n s : ℕ) : Type 0 where
-    behind : s ≤ count n
-    near : count n ≤ s + 3
-    phase : phaseByte (x .array) n ≡ phaseOf (count n)
-
-  step-counts : (n s : ℕ) → Reaches n s → (ms : List ℕ) (sum : ℕ)
-      → stepped (lineStep x n s) n s ms sum ≡ soFar (ms ++ (count n ∷ [])) (sum + (count n - s))
-  unfolding stepped byPhase
-  step-counts n s r ms sum =
-      let reach = forward-reaches s (count n) (r .behind) (r .near) in
-      let made : lineStep x n s ≡ to (count n) =
-      rw (r .phase, reach, le-leb (phaseOf (count n)) 3 (omega arith), le-leb (count n) 127 (omega (arith, small .minor n))) in
-      ap (λ (t : Step). stepped t n s ms sum) made
-
-  -- the lines from n on brought forward to their counts, and what these are above the minors
-  forward-counts : (n : ℕ) (ss : List ℕ) → ((k : ℕ) → k < length ss → Reaches (n + k) (getD ss k 0)) → (ms : List ℕ) (sum : ℕ)
-      → (total ss ≤ total (countsFrom count n (length ss)))
-      × (forwardFrom x n ss ms sum
-      ≡ soFar (ms ++ countsFrom count n (length ss)) (sum + (total (countsFrom count n (length ss)) - total ss)))
-  unfolding forwardFrom onward countsFrom total
-  forward-counts n [] reaches ms sum = (le-refl 0, ap₂ soFar (sym (append-nil ms)) (omega arith))
-  forward-counts n (s ∷ ss) reaches ms sum =
-      let here : Reaches n s = subst (λ (k : ℕ). Reaches k s) (omega arith) (reaches 0 (omega arith)) in
-      let rest = forward-counts (suc n) ss
-      (λ k q. subst (λ (j : ℕ). Reaches j (getD ss k 0)) (omega arith) (reaches (suc k) (omega arith)))
-      (ms ++ (count n ∷ [])) (sum + (count n - s)) in
-      let first = ap (λ (r : Forwarded). onward r (forwardFrom x (suc n) ss)) (step-counts n s here ms sum) in
-      let joined = append-assoc ms (count n ∷ []) (countsFrom count (suc n) (length ss)) in
-      (omega (arith, here .behind, rest .0), first ∙ rest .1 ∙ ap₂ soFar joined (omega (arith, here .behind, rest .0)))
+use Rattle.history_laws.proofs.Setting.{Setting, Tree, treeNode, treeRoot, tagOf, Opening, Section}
+use Rattle.history_laws.proofs.Tree.{tree-length}
+use Rattle.history_laws.proofs.Fitting.{Fitted}
+use Rattle.history_laws.proofs.Durable.{Durable}
+use Rattle.history_laws.proofs.Brought.{pageSum, block-comes}
 
 -- ---- sums slot by slot
 
@@ -105,58 +50,6 @@ adds-step g s n sum t told e q = omega (arith, e, q)
 module _ {S : Setting} {T : Tree} {o : Opening} {a : List ℕ} (m : Durable S T o a) where
   open Setting S using (keys, h, high)
   open Tree T using (count)
-
-  abbrev block : ℕ → List ℕ
-  block p = nodeIn S a 0 p
-
-  -- the phases of a page that is not open
-  phases-of : (p : ℕ) → p < pages h → opens o p ≡ false → (k : ℕ) → k < 64 → phaseByte a (64 * p + k) ≡ phaseOf (count (64 * p + k))
-  unfolding lines
-  phases-of p q e k r =
-      let page : p ≡ pageOf (64 * p + k) = omega arith in
-      m .phases (64 * p + k) (omega arith)
-      ∙ ap (λ (U : Tree). phaseOf (U .count (64 * p + k)))
-      (sealed-tree o T (64 * p + k) (not-done o (64 * p + k) (subst (λ (i : ℕ). opens o i ≡ false) page e)))
-
-  -- what the block of a page adds to the sum brought forward
-  unfoldable pub pageSum : ℕ → ℕ
-  pageSum p = total (countsFrom count (64 * p) 64) - total (minors (block p))
-
-  forwarded : {k : List ℕ} → Section o k → (p sum : ℕ) → p < pages h
-      → forwardPage k (sourceOf keys (media a k) (major (block p))) p (minors (block p)) sum
-      ≡ soFar (countsFrom count (64 * p) 64) (sum + pageSum p)
-  unfolding forwardPage pageSum
-  forwarded {k} said p sum q = go (isOpen k p) (sym (section-open said p))
-    where
-      ss : List ℕ
-      ss = minors (block p)
-
-      x : Source
-      x = sourceOf keys (media a k) (major (block p))
-
-      go : (b : Bool) → opens o p ≡ b
-          → cond b (soFar ss sum) (forwardFrom x (64 * p) ss [] sum) ≡ soFar (countsFrom count (64 * p) 64) (sum + pageSum p)
-      go true e =
-          let same = ap minors (m .open-block p q e) ∙ fresh-minors S (m .small) p in
-          ap₂ soFar same (omega (arith, ap total same))
-      go false e =
-          forward-counts x (m .small) (64 * p) ss
-          (λ j r. let inside : j < 64 = omega (arith, length-minors (block p)) in
-          record {
-            behind = m .behind p j q inside;
-            near = omega (arith, m .near p j q inside);
-            phase = phases-of p q e j inside;
-          }) [] sum .1
-          ∙ ap (λ (n : ℕ). soFar (countsFrom count (64 * p) n) (sum + (total (countsFrom count (64 * p) n) - total ss)))
-          (length-minors (block p))
-
-  block-built : {k : List ℕ} → Section o k → (c : List ℕ) (sum s p : ℕ) → p < pages h
-      → rebuildBlock h keys (media a k) c sum s p ≡ soFar (withSlot c s (suc p) 1 (treeNode S T 0 p)) (sum + pageSum p)
-  unfolding rebuildBlock onward freshNode
-  block-built said c sum s p q =
-      ap (λ (r : Forwarded). onward r (λ ms t. soFar (withSlot c s (suc p) 1 (counterBlock (major (block p)) ms)) t))
-      (forwarded said p sum q)
-      ∙ ap (λ (k : ℕ). soFar (withSlot c s (suc p) 1 (counterBlock k (countsFrom count (64 * p) 64))) (sum + pageSum p)) (m .majors p q)
 
   -- ---- the cache, slot by slot
 
@@ -306,13 +199,13 @@ module _ {S : Setting} {T : Tree} {o : Opening} {a : List ℕ} (m : Durable S T 
   -- what the owner of a slot adds to the sum
   unfoldable pub added : ℕ → ℕ
   added zero = 0
-  added (suc p) = pageSum p
+  added (suc p) = pageSum S T a p
 
   owner-none : (o sum : ℕ) → o ≡ 0 → sum ≡ sum + added o
   unfolding added
   owner-none o sum e = sym (ap (λ (k : ℕ). sum + added k) e ∙ add-zero sum)
 
-  owner-some : (o p sum : ℕ) → o ≡ suc p → sum + pageSum p ≡ sum + added o
+  owner-some : (o p sum : ℕ) → o ≡ suc p → sum + pageSum S T a p ≡ sum + added o
   unfolding added
   owner-some o p sum e = sym (ap (λ (k : ℕ). sum + added k) e)
 
@@ -337,90 +230,105 @@ module _ {S : Setting} {T : Tree} {o : Opening} {a : List ℕ} (m : Durable S T 
       go others (suc i) e =
           step others (ap (rebuildNode h keys a c s) e) (filled s i c _ (omega arith) e (node-built s i c far (omega arith) e u) u)
 
-  -- ---- the whole cache, by the control record k
-
   four : slots h ≡ suc (suc (suc (suc (2 * h))))
   unfolding slots
   four = omega arith
 
-  module _ {k : List ℕ} (said : Section o k) where
-    -- counter slots from s on
-    pub record BlocksFrom (n s : ℕ) (c : List ℕ) (sum : ℕ) : Type 0 where
-      pub cache : List ℕ
-      pub told : ℕ
-      pub same : rebuildBlocks h keys (media a k) s (listing s n) c sum ≡ soFar cache told
-      pub upto : Upto (s + n) cache
-      pub adds : told ≡ sum + total (countsFrom (λ t. added (shadowOwner h a t)) s n)
-
-    blocks-from : (n s : ℕ) (c : List ℕ) (sum : ℕ) → s + n ≤ 4 → Upto s c → BlocksFrom n s c sum
-    unfolding rebuildBlocks rebuildSlot onward from slots
-    blocks-from zero s c sum p u =
-        record {
-          cache = c;
-          told = sum;
-          same = refl;
-          upto = subst (λ (k : ℕ). Upto k c) (omega arith) u;
-          adds = adds-none (λ t. added (shadowOwner h a t)) s sum;
-        }
-    blocks-from (suc n) s c sum p u = go (λ d t v. blocks-from n (suc s) d t (omega arith) v) (shadowOwner h a s) refl
-      where
-        step : {d : List ℕ} {t : ℕ} → rebuildSlot h keys (media a k) c sum s (shadowOwner h a s) ≡ soFar d t → t ≡ sum + added (shadowOwner h a s)
-            → BlocksFrom n (suc s) d t → BlocksFrom (suc n) s c sum
-        step e w r =
-            record {
-              cache = r .cache;
-              told = r .told;
-              same = ap (λ (x : Forwarded). onward x (rebuildBlocks h keys (media a k) (suc s) (listing (suc s) n))) e ∙ r .same;
-              upto = subst (λ (k : ℕ). Upto k (r .cache)) (omega arith) (r .upto);
-              adds = adds-step (λ t. added (shadowOwner h a t)) s n sum _ (r .told) w (r .adds);
-            }
-
-        go : ((d : List ℕ) (t : ℕ) → Upto (suc s) d → BlocksFrom n (suc s) d t) → (i : ℕ) → shadowOwner h a s ≡ i
-            → BlocksFrom (suc n) s c sum
-        go others zero e = step (ap (rebuildSlot h keys (media a k) c sum s) e) (owner-none (shadowOwner h a s) sum e) (others c sum (skipped s c e u))
-        go others (suc i) e =
-            let level : levelOf s ≡ 0 = level-low s (omega arith) in
-            let index : i < nodes h 0 = subst (λ (k : ℕ). i < nodes h k) level (listed-node s i (omega arith) e .0) in
-            let page : i < pages h = omega (arith, index, nodes-bottom h) in
-            step (ap (rebuildSlot h keys (media a k) c sum s) e ∙ block-built said c sum s i page) (owner-some (shadowOwner h a s) i sum e)
-            (others (withSlot c s (suc i) 1 (treeNode S T 0 i)) _
-            (filled s i c (treeNode S T 0 i) (omega arith) e (ap (λ (k : ℕ). treeNode S T k i) (sym level)) u))
-
-    pub blocks : BlocksFrom 4 0 (emptyCache h) 0
-    blocks = blocks-from 4 0 (emptyCache h) 0 (le-refl 4) none-yet
-
-    pub cacheAfter : List ℕ
-    cacheAfter = rebuildNodes h keys a 4 (listing 4 (2 * h)) (blocks .cache)
-
-    pub all-slots : Upto (slots h) cacheAfter
-    unfolding cacheAfter
-    all-slots =
-        subst (λ (k : ℕ). Upto k cacheAfter) (omega (arith, four))
-        (nodes-from (2 * h) 4 (blocks .cache) (le-refl 4) (omega (arith, four)) (blocks .upto))
-
-    pub formed-after : Formed h cacheAfter
-    formed-after =
-        record {
-          owners = owned-same (m .owners) (λ s p. all-slots .listed s p p);
-          flag = λ s p. flags s p (owner cacheAfter s) refl;
-          clean = all-slots .bare;
-        }
-      where
-        flags : (s : ℕ) → s < slots h → (o : ℕ) → owner cacheAfter s ≡ o → dirty cacheAfter s ≤ 1
-        flags s p zero e = omega (arith, all-slots .bare s p e)
-        flags s p (suc i) e = omega (arith, all-slots .full s i p e)
-
 -- ---- the whole recovery, once the pending stores are made
 
-module _ {S : Setting} {T : Tree} {o : Opening} (x : Module) (deep : depth (x .control) ≡ S .h) (said : Section o (x .control))
-    (m : Durable S T o (x .array)) (top : root (x .control) ≡ treeRoot S T) (k : ℕ) where
+-- what it is about
+pub record Recoverable (S : Setting) (T : Tree) (o : Opening) (x : Module) : Type 0 where
+  pub deep : depth (x .control) ≡ S .h
+  pub said : Section o (x .control)
+  pub durable : Durable S T o (x .array)
+  pub cells : Fitted S T o (x .array)
+  pub top : root (x .control) ≡ treeRoot S T
+
+module _ {S : Setting} {T : Tree} {o : Opening} {x : Module} (v : Recoverable S T o x) where
   open Setting S using (keys, h)
+  open Recoverable v using (deep)
 
   abbrev a : List ℕ
   a = x .array
 
-  abbrev c : List ℕ
-  c = cacheAfter m said
+  abbrev m : Durable S T o a
+  m = v .durable
+
+  -- counter slots from s on
+  pub record BlocksFrom (n s : ℕ) (c : List ℕ) (sum : ℕ) : Type 0 where
+    pub cache : List ℕ
+    pub told : ℕ
+    pub comes : rebuildBlocks h keys (mediaOf x) s (listing m s n) c sum ≡ soFar cache told
+    pub upto : Upto m (s + n) cache
+    pub adds : told ≡ sum + total (countsFrom (λ t. added m (shadowOwner h a t)) s n)
+
+  blocks-from : (n s : ℕ) (c : List ℕ) (sum : ℕ) → s + n ≤ 4 → Upto m s c → BlocksFrom n s c sum
+  unfolding rebuildBlocks rebuildSlot onward from slots
+  blocks-from zero s c sum p u =
+      record {
+        cache = c;
+        told = sum;
+        comes = refl;
+        upto = subst (λ (k : ℕ). Upto m k c) (omega arith) u;
+        adds = adds-none (λ t. added m (shadowOwner h a t)) s sum;
+      }
+  blocks-from (suc n) s c sum p u = go (λ e t v. blocks-from n (suc s) e t (omega arith) v) (shadowOwner h a s) refl
+    where
+      Slot : ℕ → List ℕ → ℕ → Type 0
+      Slot owner i t = rebuildSlot h keys (mediaOf x) c sum s owner ≡ soFar i t
+
+      step : {i : List ℕ} {t : ℕ} → Slot (shadowOwner h a s) i t → t ≡ sum + added m (shadowOwner h a s) → BlocksFrom n (suc s) i t
+          → BlocksFrom (suc n) s c sum
+      step e w r =
+          record {
+            cache = r .cache;
+            told = r .told;
+            comes = ap (λ (y : Forwarded). onward y (rebuildBlocks h keys (mediaOf x) (suc s) (listing m (suc s) n))) e ∙ r .comes;
+            upto = subst (λ (k : ℕ). Upto m k (r .cache)) (omega arith) (r .upto);
+            adds = adds-step (λ t. added m (shadowOwner h a t)) s n sum _ (r .told) w (r .adds);
+          }
+
+      go : ((e : List ℕ) (t : ℕ) → Upto m (suc s) e → BlocksFrom n (suc s) e t) → (i : ℕ) → shadowOwner h a s ≡ i
+          → BlocksFrom (suc n) s c sum
+      go others zero e =
+          step (subst (λ (i : ℕ). Slot i c sum) (sym e) refl) (owner-none m (shadowOwner h a s) sum e)
+          (others c sum (skipped m s c e u))
+      go others (suc i) e =
+          let level : levelOf s ≡ 0 = level-low s (omega arith) in
+          let index : i < nodes h 0 = subst (λ (k : ℕ). i < nodes h k) level (listed-node m s i (omega arith) e .0) in
+          let page : i < pages h = omega (arith, index, nodes-bottom h) in
+          let new = withSlot c s (suc i) 1 (treeNode S T 0 i) in
+          step (subst (λ (j : ℕ). Slot j new (sum + pageSum S T a i)) (sym e)
+          (block-comes m (v .cells) (v .said) i page c sum s))
+          (owner-some m (shadowOwner h a s) i sum e)
+          (others new (sum + pageSum S T a i)
+          (filled m s i c (treeNode S T 0 i) (omega arith) e (ap (λ (k : ℕ). treeNode S T k i) (sym level)) u))
+
+  pub blocks : BlocksFrom 4 0 (emptyCache h) 0
+  blocks = blocks-from 4 0 (emptyCache h) 0 (le-refl 4) (none-yet m)
+
+  pub cacheAfter : List ℕ
+  cacheAfter = rebuildNodes h keys a 4 (listing m 4 (2 * h)) (blocks .cache)
+
+  pub all-slots : Upto m (slots h) cacheAfter
+  unfolding cacheAfter
+  all-slots =
+      subst (λ (k : ℕ). Upto m k cacheAfter) (omega (arith, four m))
+      (nodes-from m (2 * h) 4 (blocks .cache) (le-refl 4) (omega (arith, four m)) (blocks .upto))
+
+  pub formed-after : Formed h cacheAfter
+  formed-after =
+      record {
+        owners = owned-same (m .owners) (λ s p. all-slots .listed s p p);
+        flag = λ s p. flags s p (owner cacheAfter s) refl;
+        clean = all-slots .bare;
+      }
+    where
+      flags : (s : ℕ) → s < slots h → (o : ℕ) → owner cacheAfter s ≡ o → dirty cacheAfter s ≤ 1
+      flags s p zero e = omega (arith, all-slots .bare s p e)
+      flags s p (suc i) e = omega (arith, all-slots .full s i p e)
+
+  -- ---- and its end
 
   abbrev os : List ℕ
   os = shadowOwners h a
@@ -433,27 +341,36 @@ module _ {S : Setting} {T : Tree} {o : Opening} (x : Module) (deep : depth (x .c
   unfolding from
   node-slots = ap (λ (n : ℕ). drop 4 (from (shadowOwner h a) 0 n)) (four m)
 
-  abbrev done-with : ℕ → Called
-  done-with sum = record { answer = Done k sum; after = record { array = a; control = x .control; cache = c } }
+  -- k is the number of the pending stores
+  module _ (k : ℕ) where
+    abbrev done-with : ℕ → Called
+    done-with sum = record { answer = Done k sum; after = record { array = a; control = x .control; cache = cacheAfter } }
 
-  -- the top is the fresh tree's, so it gives the root
-  root-right : (sum : ℕ) → recoverRoot keys k x sum c ≡ done-with sum
-  unfolding recoverRoot
-  root-right sum =
-      let top-in = slot-within h h 0 (le-refl h) in
-      ap (λ (b : Bool). cond b (done-with sum) (refuseAfter k x 29 0))
-      (eq-eqb _ _ (ap (λ (d : ℕ). tagOf S (current d a c d 0) d 0) deep
-      ∙ ap (λ (b : List ℕ). tagOf S b h 0) (current-fresh m (slots h) c (all-slots m said) h 0 (le-refl h) (nodes-some h h) top-in)
-      ∙ sym top))
+    -- the top is the fresh tree's, so it gives the root
+    root-right : (sum : ℕ) → recoverRoot keys k x sum cacheAfter ≡ done-with sum
+    unfolding recoverRoot
+    root-right sum =
+        let top-in = slot-within h h 0 (le-refl h) in
+        let u = all-slots in
+        ap (λ (b : Bool). cond b (done-with sum) (refuseAfter k x 29 0))
+        (eq-eqb _ _ (ap (λ (d : ℕ). tagOf S (current d a cacheAfter d 0) d 0) deep
+        ∙ ap (λ (b : List ℕ). tagOf S b h 0) (current-fresh m (slots h) cacheAfter u h 0 (le-refl h) (nodes-some h h) top-in)
+        ∙ sym (v .top)))
 
-  -- so recovery is done
-  pub recovered : recoverMedia keys k x ≡ done-with (blocks m said .told)
-  unfolding recoverShadow recoverRebuilt cacheAfter
-  recovered =
-      ap (λ (d : ℕ). recoverShadow keys k x (shadowOwners d a) (badSlot d (shadowOwners d a))) deep
-      ∙ ap (recoverShadow keys k x os) (not-bad h (shadowOwner h a) (m .owners))
-      ∙ ap (recoverRebuilt keys k x os)
-      (ap₂ (λ (d : ℕ) (l : List ℕ). rebuildBlocks d keys (mediaOf x) 0 l (emptyCache d) 0) deep counter-slots ∙ blocks m said .same)
-      ∙ ap₂ (λ (d : ℕ) (l : List ℕ). recoverRoot keys k x (blocks m said .told) (rebuildNodes d keys a 4 l (blocks m said .cache)))
-      deep node-slots
-      ∙ root-right (blocks m said .told)
+    -- by what the counters come to
+    by-counters : recoverMedia keys k x
+        ≡ recoverRebuilt keys k x os (rebuildBlocks h keys (mediaOf x) 0 (from (shadowOwner h a) 0 4) (emptyCache h) 0)
+    unfolding recoverShadow
+    by-counters =
+        ap (λ (d : ℕ). recoverShadow keys k x (shadowOwners d a) (badSlot d (shadowOwners d a))) deep
+        ∙ ap (recoverShadow keys k x os) (not-bad h (shadowOwner h a) (m .owners))
+        ∙ ap (recoverRebuilt keys k x os)
+        (ap₂ (λ (i : ℕ) (l : List ℕ). rebuildBlocks i keys (mediaOf x) 0 l (emptyCache i) 0) deep counter-slots)
+
+    -- so it is done
+    pub built : recoverMedia keys k x ≡ done-with (blocks .told)
+    unfolding recoverRebuilt cacheAfter
+    built =
+        by-counters ∙ ap (recoverRebuilt keys k x os) (blocks .comes)
+        ∙ ap₂ (λ (d : ℕ) (l : List ℕ). recoverRoot keys k x (blocks .told) (rebuildNodes d keys a 4 l (blocks .cache))) deep node-slots
+        ∙ root-right (blocks .told)

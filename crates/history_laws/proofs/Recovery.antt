@@ -3,14 +3,14 @@
 use mathlib.Core.Path.{_≡_, refl, sym, ap, _∙_, subst}
 use mathlib.Core.Bool.{Bool, true, false, cond}
 use mathlib.Core.List.{List, []}
-use Prim.Native.Nat.{_-_, ℕ, _≤_}
+use Prim.Native.Nat.{ℕ, _-_}
 use native.Mathlib.Omega.{arith}
 use borrow.Author.Tests.{ltb-false}
 use lib.ListN.{length}
 use Rattle.words.proofs.Digits.{Below}
 use Rattle.memory_map.specs.Map.{lines}
 use Rattle.answer.specs.declared.Answer.the-variants.{Done, Cut}
-use Rattle.journal.specs.Journal.{Store, Media, storeAll, pendingStores, made, isCut}
+use Rattle.journal.specs.Journal.{Store, storeAll, pendingStores, made, isCut}
 use Rattle.journal.proofs.Laws.{made-all}
 use Rattle.calls.specs.Call.{Module, Called, mediaOf, withMedia}
 use Rattle.calls.specs.Recovery.{recoveryRefusal, recoverMedia, recoverJudged, recover}
@@ -18,11 +18,11 @@ use Rattle.calls.specs.Format.{countsFrom}
 use Rattle.history_laws.specs.History.{Book, storedMinor, total}
 use Rattle.call_laws.proofs.Judged.{end, opened-on}
 use Rattle.call_laws.proofs.Rebuilt.{recover-kept}
-use Rattle.history_laws.proofs.Setting.{Setting, Tree, treeOf, Opening, Section}
-use Rattle.history_laws.proofs.Recovered.{Durable, cacheAfter, all-slots, formed-after, blocks, recovered}
+use Rattle.history_laws.proofs.Setting.{Setting, Tree, treeOf, Opening}
+use Rattle.history_laws.proofs.Recovered.{Recoverable, blocks, cacheAfter, all-slots, formed-after, built}
 use Rattle.history_laws.proofs.Told.{told-is}
 use Rattle.history_laws.proofs.Live.{Live}
-use Rattle.history_laws.proofs.State.{Holds, Ready, settled-holds, tests-pass, all-bytes}
+use Rattle.history_laws.proofs.State.{Holds, Ready, fitted, settled-holds, tests-pass, all-bytes}
 use Rattle.history_laws.proofs.Pending.{holds-cut}
 use Rattle.history_laws.proofs.Outcome.{madeStores, cutAmong}
 
@@ -37,13 +37,13 @@ module _ (S : Setting) (b : Book) where
         → told ≡ total (countsFrom (λ i. b .count i - storedMinor h (out .after) i) 0 (lines h)) → Ready S b o (out .after) → Ends out
 
 -- the rebuilt cache goes with the array
-rebuilt-live : {S : Setting} {T : Tree} {o : Opening} {a k : List ℕ} (m : Durable S T o a) (said : Section o k)
-    → Below 256 (cacheAfter m said) → Live S T o a (cacheAfter m said)
-rebuilt-live m said plain =
-    let u = all-slots m said in
+rebuilt-live : {S : Setting} {T : Tree} {o : Opening} {x : Module} (v : Recoverable S T o x) → Below 256 (cacheAfter v)
+    → Live S T o (x .array) (cacheAfter v)
+rebuilt-live v plain =
+    let u = all-slots v in
     record {
-      durable = m;
-      fit = record { sized = u .sized; formed = formed-after m said; bytes = plain };
+      durable = v .durable;
+      fit = record { sized = u .sized; formed = formed-after v; bytes = plain };
       listed = λ s q. u .listed s q q;
       fresh = λ s i q o. u .fresh s i q q (sym (u .listed s q q) ∙ o);
       clean = λ s i q o z. absurd (omega (arith, u .full s i q o, z));
@@ -67,45 +67,40 @@ module _ {S : Setting} {b : Book} {o : Opening} {m : Module} (held : Holds S b o
   unfolding recoverJudged
   opened = ap (λ (n : ℕ). recoverJudged n keys allowance m) no-refusal
 
-  -- the module once they are made, and what is rebuilt for it
-  abbrev settled-media : Media
-  settled-media = storeAll (mediaOf m) xs
+  -- the module once they are made
+  abbrev settled-module : Module
+  settled-module = withMedia (storeAll (mediaOf m) xs) (m .cache)
 
-  abbrev d : Durable S (treeOf b) o (settled-media .array)
-  d = held .settled .keeps .durable
+  recoverable : Recoverable S (treeOf b) o settled-module
+  recoverable =
+      let s = held .settled in
+      record { deep = s .deep; said = s .section; durable = s .keeps .durable; cells = fitted S (s .keeps); top = s .top }
 
-  abbrev said : Section o (settled-media .control)
-  said = held .settled .section
+  abbrev out : Called
+  out = recover keys allowance m
 
-  abbrev cache : List ℕ
-  cache = cacheAfter d said
-
-  abbrev told : ℕ
-  told = blocks d said .told
-
-  abbrev ended : Called
-  ended = record { answer = Done (length xs) told; after = withMedia settled-media cache }
-
-  done-is : length xs ≤ allowance → isCut allowance xs ≡ false → recover keys allowance m ≡ ended
-  done-is p e =
+  not-cut : isCut allowance xs ≡ false → out ≡ recoverMedia keys (length xs) settled-module
+  not-cut e =
       opened ∙ ap stored e
-      ∙ ap (λ (l : List Store). recoverMedia keys (length xs) (withMedia (storeAll (mediaOf m) l) (m .cache))) (made-all allowance xs p)
-      ∙ recovered (withMedia settled-media (m .cache)) (held .settled .deep) said d (held .settled .top) (length xs)
+      ∙ ap (λ (l : List Store). recoverMedia keys (length xs) (withMedia (storeAll (mediaOf m) l) (m .cache)))
+      (made-all allowance xs (ltb-false allowance (length xs) e))
 
-  pub ends : Ends S b (recover keys allowance m)
+  pub ends : Ends S b out
   unfolding storedMinor
   ends = go (isCut allowance xs) refl
     where
-      go : (x : Bool) → isCut allowance xs ≡ x → Ends S b (recover keys allowance m)
+      go : (x : Bool) → isCut allowance xs ≡ x → Ends S b out
       go true e = subst (Ends S b) (sym (opened ∙ ap stored e)) (cut (length (made allowance xs)) refl (holds-cut held allowance))
       go false e =
-          let same = done-is (ltb-false allowance (length xs) e) e in
-          let plain : Below 256 cache =
+          let v = recoverable in
+          let told = blocks v .told in
+          let same = not-cut e ∙ built v (length xs) in
+          let plain : Below 256 (cacheAfter v) =
           subst (λ (c : Called). Below 256 (c .after .cache)) same (recover-kept keys allowance m (all-bytes held) .bytes .cache) in
           subst (Ends S b) (sym same)
-          (rebuilt (length xs) told refl (told-is d told (blocks d said .adds))
+          (rebuilt (length xs) told refl (told-is (v .durable) told (blocks v .adds))
           (record {
-            holds = settled-holds cache (all-slots d said .sized) plain (held .settled);
+            holds = settled-holds (cacheAfter v) (all-slots v .sized) plain (held .settled);
             idle = held .settled .idle;
-            live = rebuilt-live d said plain;
+            live = rebuilt-live v plain;
           }))

@@ -21,7 +21,7 @@ use Rattle.calls.specs.Path.{renewed, renewPath}
 use Rattle.call_laws.proofs.Loads.{Fit}
 use Rattle.history_laws.proofs.Setting.{Setting, Tree, treeNode, nodeIn, Opening}
 use Rattle.history_laws.proofs.Tree.{tree-bytes, tree-length, Path, off-path, renewed-fresh}
-use Rattle.history_laws.proofs.Recovered.{Durable}
+use Rattle.history_laws.proofs.Durable.{Durable}
 use Rattle.history_laws.proofs.Stores.{first, second}
 use Rattle.history_laws.proofs.Live.{Live}
 

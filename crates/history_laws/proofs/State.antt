@@ -5,37 +5,37 @@ use mathlib.Core.Bool.{true}
 use mathlib.Core.List.{List}
 use mathlib.Core.Option.{Option, none, some}
 use Prim.Native.Nat.{ℕ, _*_, _<_}
-use lib.ListN.{length, getD}
+use lib.ListN.{length, replicate}
 use Rattle.words.specs.Bytes.{part}
 use Rattle.words.proofs.Digits.{Below}
 use Rattle.memory_map.specs.Map.{lines, cells, arrayLength}
 use Rattle.slot_map.specs.Slots.{cacheLength}
-use Rattle.counter.specs.Counter.{phaseOf}
+use Rattle.cache.specs.Cache.{cellBytes}
 use Rattle.control.specs.Control.{depth, root, count, places, queue, inMap, validHead, validTurn, valid}
 use Rattle.control.proofs.Laws.{parts-valid}
 use Rattle.journal.specs.Journal.{Media, storeAll, pendingStores}
 use Rattle.journal.proofs.Laws.{pending-none, store-none}
 use Rattle.journal.proofs.Kept.{Formed}
 use Rattle.calls.specs.Call.{Module, mediaOf, withMedia}
-use Rattle.calls.specs.Recovery.{phaseByte}
 use Rattle.history_laws.specs.History.{Book}
 use Rattle.call_laws.proofs.Judged.{Opened}
 use Rattle.call_laws.proofs.Kept.{Bytes}
-use Rattle.history_laws.proofs.Setting.{Setting, Tree, Alike, treeOf, treeRoot, Opening, sealed, Section}
-use Rattle.history_laws.proofs.Recovered.{Durable}
+use Rattle.history_laws.proofs.Setting.{Setting, Tree, Alike, treeOf, treeRoot, cipherOf, Opening, sealed, Section}
+use Rattle.history_laws.proofs.Fitting.{Fits, blank, marked, Fitted}
+use Rattle.history_laws.proofs.Durable.{Durable}
 use Rattle.history_laws.proofs.Live.{Live}
-use Rattle.history_laws.proofs.Data.{dataBytes, data-agree, phase-data, phase-in}
+use Rattle.history_laws.proofs.Data.{dataBytes, data-agree, length-cipher}
 
--- a line's cell: of no use where it has no text, else its text's
+-- a line's cell: all zero where it has no text, else its text's
 unfoldable pub RowOk : Setting → Tree → ℕ → Option (List ℕ) → List ℕ → Type 0
-RowOk S T n none a = T .count n ≡ 0
-RowOk S T n (some t) a = (0 < T .count n) × (length t ≡ 64) × Below 256 t × (part a (72 * n) 72 ≡ dataBytes S T n t)
+RowOk S T n none a = (T .count n ≡ 0) × (cellBytes a n ≡ replicate 72 0)
+RowOk S T n (some t) a = (0 < T .count n) × (length t ≡ 64) × Below 256 t × (cellBytes a n ≡ dataBytes S T n t)
 
--- a row that stays, in a tree that has the same counter for its line; a row with a text; and each with its phase
+-- a row that stays, in a tree that has the same counter for its line; a row with a text
 pub row-moved : (S : Setting) {T U : Tree} {i : ℕ} → Alike T U i → (a e : List ℕ) (o : Option (List ℕ))
     → part e (72 * i) 72 ≡ part a (72 * i) 72 → RowOk S T i o a → RowOk S U i o e
 unfolding RowOk
-row-moved S w a e none q r = sym (w .count) ∙ r
+row-moved S w a e none q r = (sym (w .count) ∙ r .0, q ∙ r .1)
 row-moved S {T} {U} {i} w a e (some t) q r =
     (subst (λ (j : ℕ). 0 < j) (w .count) (r .0), r .1, r .2, q ∙ r .3 ∙ data-agree S T U i t (w .major (r .0)) (w .count))
 
@@ -44,20 +44,11 @@ pub row-some : (S : Setting) (T : Tree) (i : ℕ) (a t : List ℕ) → 0 < T .co
 unfolding RowOk
 row-some S T i a t p q r s = (p, q, r, s)
 
-abbrev pub CellOk : Setting → Tree → ℕ → Option (List ℕ) → List ℕ → Type 0
-CellOk S T n t a = RowOk S T n t a × (phaseByte a n ≡ phaseOf (T .count n))
-
-pub cell-moved : (S : Setting) {T U : Tree} {i : ℕ} → Alike T U i → (a e : List ℕ) (o : Option (List ℕ))
-    → part e (72 * i) 72 ≡ part a (72 * i) 72 → CellOk S T i o a → CellOk S U i o e
-cell-moved S {i = i} w a e o q r = (
-  row-moved S w a e o q (r .0),
-  phase-in e i ∙ ap (λ (l : List ℕ). getD l 64 0) q ∙ sym (phase-in a i) ∙ r .1 ∙ ap phaseOf (w .count),
-)
-
-pub cell-some : (S : Setting) (T : Tree) (i : ℕ) (a t : List ℕ) → 0 < T .count i → length t ≡ 64 → Below 256 t
-    → part a (72 * i) 72 ≡ dataBytes S T i t → CellOk S T i (some t) a
-cell-some S T i a t p q r s =
-    (row-some S T i a t p q r s, phase-in a i ∙ ap (λ (l : List ℕ). getD l 64 0) s ∙ phase-data S T i t q)
+-- so its cell fits the line's counter
+pub row-fits : (S : Setting) (T : Tree) (i : ℕ) (o : Option (List ℕ)) (a : List ℕ) → RowOk S T i o a → Fits S T i (cellBytes a i)
+unfolding RowOk dataBytes
+row-fits S T i none a r = blank (r .0) (r .1)
+row-fits S T i (some t) a r = marked (cipherOf S T i t) (r .0) (length-cipher S T i t (r .1)) (r .3)
 
 abbrev pub finished : Media → Media
 finished d = storeAll d (pendingStores (d .control))
@@ -69,6 +60,10 @@ module _ (S : Setting) where
   pub record Keeps (b : Book) (o : Opening) (a : List ℕ) : Type 0 where
     pub durable : Durable S (treeOf b) o a
     pub rows : (n : ℕ) → n < lines h → RowOk S (sealed o (treeOf b) n) n (b .text n) a
+
+  pub fitted : {b : Book} {o : Opening} {a : List ℕ} → Keeps b o a → Fitted S (treeOf b) o a
+  fitted {b} {o} {a} k =
+      record { fits = λ n q. row-fits S (sealed o (treeOf b) n) n (b .text n) a (k .rows n q) }
 
   -- media with nothing pending
   pub record Settled (b : Book) (o : Opening) (d : Media) : Type 0 where

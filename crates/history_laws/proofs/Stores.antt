@@ -8,25 +8,24 @@ use Prim.Native.Nat.{ℕ, suc, _+_, _*_, _^_, _≤_, _<_, zero-le}
 use native.Mathlib.Nat.{le-refl}
 use native.Mathlib.Omega.{arith}
 use lib.Dec.{lit<}
-use lib.ListN.{length, getD, replicate, take, length-append}
-use lib.Seq.{take-at, take-all}
+use lib.ListN.{length, replicate, take, length-append}
+use lib.Seq.{take-at, drop-at, take-all}
 use Rattle.words.specs.Bytes.{fromLe, toLe, part, put}
 use Rattle.words.proofs.Digits.{length-digits, number-exact}
 use Rattle.words.proofs.Order.{lt-eq-gt, eq-or-not}
 use Rattle.words.proofs.Parts.{length-put}
-use Rattle.words.proofs.Puts.{getD-part, part-put-in, part-put-before, part-put-after}
+use Rattle.words.proofs.Puts.{part-put-in, part-put-before, part-put-after}
 use Rattle.memory_map.specs.Map.{pages, lines, nodes, slots, arrayLength, cellOf, InMap, Item}
 use Rattle.memory_map.specs.Map.Item.{line, node, shadow}
 use Rattle.memory_map.proofs.Laws.{cell-within, cell-injective, nodes-bottom}
 use Rattle.slot_map.specs.Slots.{slotOf, levelOf, belongs}
 use Rattle.slot_map.proofs.Laws.{slot-within, level-slot, node-belongs}
 use Rattle.counter.specs.Counter.{major, minor, lag}
-use Rattle.cache.specs.Cache.{cellContent, shadowOwner, topSlot}
+use Rattle.cache.specs.Cache.{cellBytes, cellContent, shadowOwner, topSlot}
 use Rattle.cache.proofs.Laws.{owned-same}
-use Rattle.calls.specs.Recovery.{phaseByte}
 use Rattle.history_laws.proofs.Setting.{Setting, Tree, treeNode, nodeIn, Opening}
 use Rattle.history_laws.proofs.Tree.{tree-length, fresh-major, fresh-minor}
-use Rattle.history_laws.proofs.Recovered.{Durable}
+use Rattle.history_laws.proofs.Durable.{Spare, Durable}
 
 -- ---- items apart
 
@@ -114,14 +113,6 @@ module _ {h : ℕ} {a : List ℕ} {x : Item} {bs : List ℕ} (w : Put h a x bs) 
         let start : 72 * cellOf h y ≡ 72 * cellOf h y + 0 = omega arith in
         ap (λ (k : ℕ). part after k m) start ∙ part-other (cellOf h y) 0 m differ (omega arith) ∙ ap (λ (k : ℕ). part a k m) (sym start)
 
-    other-byte : (k : ℕ) → k < 72 → getD after (72 * cellOf h y + k) 0 ≡ getD a (72 * cellOf h y + k) 0
-    other-byte k p =
-        byte after (72 * cellOf h y + k)
-        ∙ ap (λ (l : List ℕ). getD l 0 0) (part-other (cellOf h y) k 1 differ (omega arith)) ∙ sym (byte a (72 * cellOf h y + k))
-      where
-        byte : (l : List ℕ) (at : ℕ) → getD l at 0 ≡ getD (part l at 1) 0 0
-        byte l at = let here : at ≡ at + 0 = omega arith in ap (λ (k : ℕ). getD l k 0) here ∙ sym (getD-part l at 1 0 (lit< tt))
-
   line-apart : (n : ℕ) → n < lines h → (line n ≡ x → ⊥) → part after (72 * n) 72 ≡ part a (72 * n) 72
   line-apart n p e =
       subst (λ (k : ℕ). part after (72 * k) 72 ≡ part a (72 * k) 72) (line-cell h n) (other-part (line n) (in-line h n p) e 72 (le-refl 72))
@@ -135,16 +126,10 @@ module _ {h : ℕ} {a : List ℕ} {x : Item} {bs : List ℕ} (w : Put h a x bs) 
   unfolding shadowOwner
   shadow-apart s p e = ap fromLe (other-part (shadow s) (in-shadow h s p) e 8 (omega arith))
 
-  -- items of another kind: lines' cells and their phases, nodes, shadow cells
+  -- items of another kind: lines' cells, nodes, shadow cells
   pub lines-apart : (kind x ≡ 0 → ⊥) → (n : ℕ) → n < lines h → part after (72 * n) 72 ≡ part a (72 * n) 72
   unfolding kind
   lines-apart e n p = line-apart n p (apart (line n) x (λ q. e (sym q)))
-
-  pub phases-apart : (kind x ≡ 0 → ⊥) → (n : ℕ) → n < lines h → phaseByte after n ≡ phaseByte a n
-  unfolding kind
-  phases-apart e n p =
-      subst (λ (k : ℕ). getD after (72 * k + 64) 0 ≡ getD a (72 * k + 64) 0) (line-cell h n)
-      (other-byte (line n) (in-line h n p) (apart (line n) x (λ q. e (sym q))) 64 (lit< tt))
 
   pub nodes-apart : (kind x ≡ 1 → ⊥) → (k j : ℕ) → k ≤ h → j < nodes h k
       → cellContent after (cellOf h (node k j)) ≡ cellContent a (cellOf h (node k j))
@@ -154,6 +139,17 @@ module _ {h : ℕ} {a : List ℕ} {x : Item} {bs : List ℕ} (w : Put h a x bs) 
   pub shadows-apart : (kind x ≡ 2 → ⊥) → (s : ℕ) → s < slots h → shadowOwner h after s ≡ shadowOwner h a s
   unfolding kind
   shadows-apart e s p = shadow-apart s p (apart (shadow s) x (λ z. e (sym z)))
+
+  -- spare bytes stay zero under a cell whose own are
+  pub spare-put : ((y : Item) → InMap h y → Spare y (cellBytes a (cellOf h y))) → Spare x bs
+      → (y : Item) → InMap h y → Spare y (cellBytes after (cellOf h y))
+  spare-put old new y there = go (eq-or-not (cellOf h y) number)
+    where
+      go : (cellOf h y ≡ number) ⊎ (cellOf h y ≡ number → ⊥) → Spare y (cellBytes after (cellOf h y))
+      go (inl e) =
+          subst (λ (z : Item). Spare z (cellBytes after (cellOf h z))) (sym (cell-injective h y x there inside e))
+          (subst (Spare x) (sym (same-part 72 (le-refl 72) ∙ take-all 72 bs (omega (arith, size)))) new)
+      go (inr e) = subst (Spare y) (sym (other-part y there (λ z. e (ap (cellOf h) z)) 72 (le-refl 72))) (old y there)
 
 -- ---- a data cell stored
 
@@ -180,6 +176,10 @@ node-put S T a l i whole p q =
       inside = in-node (S .h) l i p q;
       size = length-append (treeNode S T l i) (replicate 8 0) ∙ ap (λ (n : ℕ). n + 8) (tree-length S T l i);
     }
+
+pub node-spare : (S : Setting) (T : Tree) (l i : ℕ) → Spare (node l i) (nodeBytes S T l i)
+unfolding Spare
+node-spare S T l i = drop-at (treeNode S T l i) (replicate 8 0) 64 (tree-length S T l i)
 
 module _ {S : Setting} {T : Tree} {o : Opening} {a : List ℕ} (m : Durable S T o a) where
   open Setting S using (keys, h)
@@ -229,7 +229,6 @@ module _ {S : Setting} {T : Tree} {o : Opening} {a : List ℕ} (m : Durable S T 
     node-lines = lines-apart w (λ (q : _≡_ {A = ℕ} 1 0). omega arith)
 
     pub node-durable : Durable S T o with-node
-    unfolding kind
     node-durable =
         record {
           whole = length-after w ∙ m .whole;
@@ -241,8 +240,8 @@ module _ {S : Setting} {T : Tree} {o : Opening} {a : List ℕ} (m : Durable S T 
               (omega (arith, fresh-minor S (m .small) p j r)) (m .behind p j q r);
           near = λ p j q r. node-cases (λ b. count (64 * p + j) ≤ minor b j + lag (count (64 * p + j))) 0 p zero-le (page-in h p q)
               (omega (arith, fresh-minor S (m .small) p j r)) (m .near p j q r);
-          phases = λ n p. phases-apart w (λ (q : _≡_ {A = ℕ} 1 0). omega arith) n p ∙ m .phases n p;
           open-block = λ p q e. fresh-kept 0 p zero-le (page-in h p q) (m .open-block p q e);
+          spare = spare-put w (m .spare) (node-spare S T l i);
         }
       where
         stored : (k j : ℕ) → k ≤ h → j < nodes h k → (shadowOwner h with-node (slotOf k j) ≡ suc j → ⊥)
@@ -319,7 +318,7 @@ module _ {S : Setting} {T : Tree} {o : Opening} {a : List ℕ} (m : Durable S T 
     page-there p q = nodes-kept 0 p zero-le (page-in h p q)
 
     pub shadow-durable : Durable S T o with-shadow
-    unfolding kind
+    unfolding Spare
     shadow-durable =
         record {
           whole = length-after u ∙ m .whole;
@@ -334,6 +333,6 @@ module _ {S : Setting} {T : Tree} {o : Opening} {a : List ℕ} (m : Durable S T 
           behind = λ p j q r. subst (λ (b : List ℕ). minor b j ≤ count (64 * p + j)) (sym (page-there p q)) (m .behind p j q r);
           near = λ p j q r. subst (λ (b : List ℕ). count (64 * p + j) ≤ minor b j + lag (count (64 * p + j))) (sym (page-there p q))
               (m .near p j q r);
-          phases = λ n p. phases-apart u (λ (q : _≡_ {A = ℕ} 2 0). omega arith) n p ∙ m .phases n p;
           open-block = λ p q e. page-there p q ∙ m .open-block p q e;
+          spare = spare-put u (m .spare) (drop-at (toLe 8 (suc i)) (replicate 64 0) 8 (length-digits 256 8 (suc i)));
         }

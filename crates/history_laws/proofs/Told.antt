@@ -23,7 +23,9 @@ use Rattle.calls.specs.Format.{countsFrom}
 use Rattle.history_laws.specs.History.{total}
 use Rattle.history_laws.proofs.Setting.{Setting, Tree, nodeIn, Opening}
 use Rattle.history_laws.proofs.Tree.{length-counts, counts-agree, counts-at, fresh-minors}
-use Rattle.history_laws.proofs.Recovered.{Durable, pageSum, added}
+use Rattle.history_laws.proofs.Durable.{Durable}
+use Rattle.history_laws.proofs.Brought.{pageSum}
+use Rattle.history_laws.proofs.Recovered.{added}
 
 -- ---- sums
 
@@ -83,7 +85,7 @@ module _ {S : Setting} {T : Tree} {o : Opening} {a : List ℕ} (m : Durable S T 
   above n = count n - stored n
 
   abbrev D : ℕ → ℕ
-  D p = pageSum m p
+  D p = pageSum S T a p
 
   behind : (n : ℕ) → n < lines h → stored n ≤ count n
   behind n q =

@@ -42,7 +42,7 @@ use Rattle.history_laws.proofs.Live.{Live}
 use Rattle.history_laws.proofs.Reached.{Reached, block-is, minor-at, major-at, root-renewed, Blocked, blockCells, blocked}
 use Rattle.history_laws.proofs.Reached.{block-rows, with-line, live-blocked}
 use Rattle.history_laws.proofs.Data.{dataBytes, text-is}
-use Rattle.history_laws.proofs.State.{RowOk, CellOk, Keeps, Holds, settled-holds}
+use Rattle.history_laws.proofs.State.{RowOk, Keeps, Holds, settled-holds}
 use Rattle.history_laws.proofs.Batch.{Batch, turn-batch, array-whole, settled-whole}
 use Rattle.history_laws.proofs.Outcome.{Course, one-batch, afterBatch, then-more}
 use Rattle.history_laws.proofs.Page.{Paged, settled, walk, reached}
@@ -93,7 +93,7 @@ module _ {S : Setting} {b : Book} {o : Opening} {m : Module} {p : ℕ} (w : Page
         (settled w .keeps .rows n (line-inside h p j place page)))
       where
         go : (x : Option (List ℕ)) → b .text n ≡ x → RowOk S T n x (m .array) → Fresh j
-        go none e row = absurd (is-written (minor-is ∙ row))
+        go none e row = absurd (is-written (minor-is ∙ row .0))
         go (some t) e row =
             record {
               text = t;
@@ -234,7 +234,7 @@ module _ {S : Setting} {b : Book} {o : Opening} {m : Module} {p : ℕ} (w : Page
 
       -- the cells behind the block, which leave d
       last-course : (rest : List Cell) (d : List ℕ) → put-cells (put-cells a (blockCells S U p true)) rest ≡ d
-          → Blocked at (turned-agree T p) true d → ((n : ℕ) → n < lines h → CellOk S U n (b .text n) d)
+          → Blocked at (turned-agree T p) true d → ((n : ℕ) → n < lines h → RowOk S U n (b .text n) d)
           → Proper h (lastBatch h keys c p front rest)
           → Course S b finished now (lastStores front rest) (length (lastCells front rest)) cache-new
       unfolding turnEntered
@@ -281,9 +281,9 @@ module _ {S : Setting} {b : Book} {o : Opening} {m : Module} {p : ℕ} (w : Page
         its-cell : Put h before (line (lineAt p j)) (dataBytes S U (lineAt p j) (f .text))
         its-cell = line-put (g .keeps) (g .still) (g .climb) page (f .says) (with-block room g .whole ∙ sym (g .keeps .durable .whole))
 
-        cells : (n : ℕ) → n < lines h → (n ≡ lineAt p j) ⊎ (n ≡ lineAt p j → ⊥) → CellOk S U n (b .text n) after
+        cells : (n : ℕ) → n < lines h → (n ≡ lineAt p j) ⊎ (n ≡ lineAt p j → ⊥) → RowOk S U n (b .text n) after
         cells n q (inl z) =
-            subst (λ (i : ℕ). CellOk S U i (b .text i) after) (sym z)
+            subst (λ (i : ℕ). RowOk S U i (b .text i) after) (sym z)
             (line-ok (g .keeps) (g .still) (g .climb) page (f .says) after (row-same its-cell))
         cells n q (inr z) =
             cell-kept (g .keeps) (at room g) (g .still) after n q

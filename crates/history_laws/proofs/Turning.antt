@@ -27,11 +27,12 @@ use Rattle.history_laws.proofs.Setting.{Setting, Tree, Alike, treeOf, t
 use Rattle.history_laws.proofs.Setting.{Opening, turning, among, opens, turnedTree, sealed}
 use Rattle.history_laws.proofs.Opening.{turned-count, sealed-tree, among-first, among-later, among-below}
 use Rattle.history_laws.proofs.Opening.{Still, still-turning, left-alike, alike-back, alike-of}
-use Rattle.history_laws.proofs.Recovered.{Durable}
-use Rattle.history_laws.proofs.Stores.{kind, page-in, in-line, Put, length-after, nodes-apart, shadows-apart, row-same, row-other}
+use Rattle.history_laws.proofs.Durable.{Spare, Durable}
+use Rattle.history_laws.proofs.Stores.{kind, page-in, in-line, Put, length-after, nodes-apart, shadows-apart, spare-put}
+use Rattle.history_laws.proofs.Stores.{row-same, row-other}
 use Rattle.history_laws.proofs.Live.{Live}
 use Rattle.history_laws.proofs.Data.{dataBytes, length-data}
-use Rattle.history_laws.proofs.State.{RowOk, CellOk, cell-moved, cell-some, Keeps}
+use Rattle.history_laws.proofs.State.{RowOk, row-moved, row-some, Keeps}
 
 climbs-head : {hi lo j : ℕ} {js : List ℕ} → Climbs hi lo (j ∷ js) → (j < hi) × (among j js ≡ false)
 climbs-head {j = j} (up l q rest) = (q, among-below j (omega arith) rest)
@@ -72,11 +73,11 @@ module _ {S : Setting} {b : Book} {o : Opening} {a : List ℕ} (k : Keeps S b o 
   line-put e =
       record { whole = e ∙ k .durable .whole; inside = in-line h n (line-inside h p j place page); size = length-data S U n t (row .1) }
 
-  pub line-ok : (e : List ℕ) → part e (72 * n) 72 ≡ bytes → CellOk S U n (b .text n) e
+  pub line-ok : (e : List ℕ) → part e (72 * n) 72 ≡ bytes → RowOk S U n (b .text n) e
   unfolding RowOk
   line-ok e q =
-      subst (λ (x : Option (List ℕ)). CellOk S U n x e) (sym says)
-      (cell-some S U n e t (omega (arith, turned-count T p n on-page, turned-some (b .count n) (λ z. omega (arith, row .0, z))))
+      subst (λ (x : Option (List ℕ)). RowOk S U n x e) (sym says)
+      (row-some S U n e t (omega (arith, turned-count T p n on-page, turned-some (b .count n) (λ z. omega (arith, row .0, z))))
       (row .1) (row .2) q)
 
   -- ---- in a batch that is not the last
@@ -113,14 +114,14 @@ module _ {S : Setting} {b : Book} {o : Opening} {a : List ℕ} (k : Keeps S b o 
       alike-back (alike-of refl)
       (left-alike (still-turning T p js) n on-page (ap (λ (i : ℕ). among i js) (line-place h p j place) ∙ climbs-head climb .1))
 
-  cells : (x : ℕ) → x < lines h → CellOk S (sealed (turning p js) T x) x (b .text x) line-turned
+  cells : (x : ℕ) → x < lines h → RowOk S (sealed (turning p js) T x) x (b .text x) line-turned
   cells x q = go (eq-or-not x n)
     where
-      go : (x ≡ n) ⊎ (x ≡ n → ⊥) → CellOk S (sealed (turning p js) T x) x (b .text x) line-turned
+      go : (x ≡ n) ⊎ (x ≡ n → ⊥) → RowOk S (sealed (turning p js) T x) x (b .text x) line-turned
       go (inl z) =
-          subst (λ (i : ℕ). CellOk S (sealed (turning p js) T i) i (b .text i) line-turned) (sym z)
-          (cell-moved S own line-turned line-turned (b .text n) refl (line-ok line-turned (row-same u)))
-      go (inr z) = cell-moved S (others x z) a line-turned (b .text x) (row-other u x q z) (k .rows x q, k .durable .phases x q)
+          subst (λ (i : ℕ). RowOk S (sealed (turning p js) T i) i (b .text i) line-turned) (sym z)
+          (row-moved S own line-turned line-turned (b .text n) refl (line-ok line-turned (row-same u)))
+      go (inr z) = row-moved S (others x z) a line-turned (b .text x) (row-other u x q z) (k .rows x q)
 
   nodes-same : (l i : ℕ) → l ≤ h → i < nodes h l → nodeIn S line-turned l i ≡ nodeIn S a l i
   unfolding kind
@@ -133,7 +134,7 @@ module _ {S : Setting} {b : Book} {o : Opening} {a : List ℕ} (k : Keeps S b o 
   -- where the array has the block
   module _ (block : nodeIn S a 0 p ≡ treeNode S T 0 p) where
     turned-durable : Durable S T (turning p js) line-turned
-    unfolding opens
+    unfolding opens Spare
     turned-durable =
         let d = k .durable in
         let same : (q : ℕ) → q < pages h → nodeIn S line-turned 0 q ≡ nodeIn S a 0 q = λ q r. nodes-same 0 q zero-le (page-in h q r) in
@@ -147,13 +148,13 @@ module _ {S : Setting} {b : Book} {o : Opening} {a : List ℕ} (k : Keeps S b o 
           behind = λ q i r l. subst (λ (x : List ℕ). minor x i ≤ b .count (64 * q + i)) (sym (same q r)) (d .behind q i r l);
           near = λ q i r l. subst (λ (x : List ℕ). b .count (64 * q + i) ≤ minor x i + lag (b .count (64 * q + i))) (sym (same q r))
               (d .near q i r l);
-          phases = λ x q. cells x q .1;
           open-block = λ q r e.
               same q r ∙ subst (λ (i : ℕ). nodeIn S a 0 i ≡ treeNode S T 0 i) (eqb-true p q e) block;
+          spare = spare-put u (d .spare) tt;
         }
 
     pub keeps-turned : Keeps S b (turning p js) line-turned
-    keeps-turned = record { durable = turned-durable; rows = λ x q. cells x q .0 }
+    keeps-turned = record { durable = turned-durable; rows = cells }
 
     pub live-turned : {c : List ℕ} → Live S T o a c → Live S T (turning p js) line-turned c
     live-turned {c} v =

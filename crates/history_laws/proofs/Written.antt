@@ -8,29 +8,28 @@ use Prim.Native.Nat.{ℕ, suc, _+_, _*_, _≤_, _<_, zero-le}
 use native.Mathlib.Omega.{arith}
 use borrow.Author.Tests.{eq-eqb}
 use lib.Dec.{eqb}
-use lib.ListN.{length, getD}
+use lib.ListN.{length}
 use Rattle.words.specs.Bytes.{part, put}
 use Rattle.words.proofs.Order.{eq-or-not}
 use Rattle.memory_map.specs.Map.{pageOf, placeOf, pages, lines, cellOf}
 use Rattle.memory_map.specs.Map.Item.{line}
 use Rattle.memory_map.proofs.Laws.{path-bottom}
-use Rattle.counter.specs.Counter.{major, minor, withMinor, phaseOf, lag}
+use Rattle.counter.specs.Counter.{major, minor, withMinor, lag}
 use Rattle.journal.proofs.Again.{put-cells}
 use Rattle.calls.specs.Read.{pageBlock, lineMinor}
 use Rattle.calls.specs.Write.{newBlock}
-use Rattle.calls.specs.Recovery.{phaseByte}
 use Rattle.calls.specs.Path.{renewPath, renewedRoot}
 use Rattle.history_laws.proofs.Setting.{Setting, Tree, Small, Agree, raised, treeNode, treeRoot, nodeIn}
 use Rattle.history_laws.proofs.Setting.{Opening, opens, sealed}
 use Rattle.history_laws.proofs.Tree.{raised-same, raised-other, fresh-major}
 use Rattle.history_laws.proofs.Tree.{fresh-minor, fresh-with, off-path}
-use Rattle.history_laws.proofs.Opening.{not-done, sealed-tree, sealed-alike}
-use Rattle.history_laws.proofs.Recovered.{Durable}
+use Rattle.history_laws.proofs.Opening.{not-done, sealed-tree}
+use Rattle.history_laws.proofs.Durable.{Durable}
 use Rattle.history_laws.proofs.Stores.{second, page-in, in-line, Put, row-same, row-other}
 use Rattle.history_laws.proofs.Live.{Live}
 use Rattle.history_laws.proofs.Reached.{Reached, block-is, minor-at, major-at, root-renewed, Blocked, blockCells, blocked}
 use Rattle.history_laws.proofs.Reached.{block-rows, with-line, page-cases, owners-new, stored-new, live-blocked}
-use Rattle.history_laws.proofs.Data.{dataBytes, length-data, phase-data, phase-in}
+use Rattle.history_laws.proofs.Data.{dataBytes, length-data}
 
 -- array and cache go together, and the cache holds the path of line n
 pub record AtLine (S : Setting) (T : Tree) (o : Opening) (a c : List ℕ) (n : ℕ) : Type 0 where
@@ -149,18 +148,6 @@ module _ {S : Setting} {T : Tree} {o : Opening} {a c : List ℕ} {n : ℕ} (w : 
             subst (λ (x : ℕ). x ≤ minor (nodeIn S a 0 q) j + lag x) (sym (ap (U .count) z ∙ raised-same T n))
             (omega (arith, part-way, old))
 
-    phases : (x : ℕ) → x < lines h → phaseByte written x ≡ phaseOf (sealed o U x .count x)
-    phases x q = phase-in written x ∙ go (eq-or-not x n)
-      where
-        go : (x ≡ n) ⊎ (x ≡ n → ⊥) → getD (part written (72 * x) 72) 64 0 ≡ phaseOf (sealed o U x .count x)
-        go (inl z) =
-            ap (λ (k : ℕ). getD (part written (72 * k) 72) 64 0) z ∙ ap (λ (l : List ℕ). getD l 64 0) row-written
-            ∙ phase-data S U n text (t .full)
-            ∙ sym (ap (λ (k : ℕ). phaseOf (sealed o U k .count k)) z ∙ ap (λ (W : Tree). phaseOf (W .count n)) own-counter)
-        go (inr z) =
-            ap (λ (l : List ℕ). getD l 64 0) (row-kept x q z) ∙ sym (phase-in a x) ∙ v .durable .phases x q
-            ∙ ap phaseOf (sealed-alike o T U x refl (other x z) .count)
-
     -- the block of an open page, which is another
     open-blocks : (q : ℕ) → q < pages h → opens o q ≡ true → nodeIn S written 0 q ≡ treeNode S U 0 q
     unfolding second
@@ -180,8 +167,8 @@ module _ {S : Setting} {T : Tree} {o : Opening} {a c : List ℕ} {n : ℕ} (w : 
               (λ e. v .durable .majors q r);
           behind = behind;
           near = near;
-          phases = phases;
           open-block = open-blocks;
+          spare = b .spare;
         }
 
     -- ---- and the cache
