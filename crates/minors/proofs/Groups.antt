@@ -1,19 +1,20 @@
 -- Groups of eight minors: seven bytes of the block, or a byte each. Assumes nothing.
 use mathlib.Core.Path.{_≡_, sym, ap, ap₂, _∙_}
 use mathlib.Core.List.{List}
-use Prim.Native.Nat.{ℕ, _+_, _*_, _≤_, _/_, _%_, _^_, _<_}
-use native.Mathlib.Nat.{le-refl, mul-comm, zero-add}
+use Prim.Native.Nat.{ℕ, _+_, _*_, _≤_, _/_, _^_, _<_}
+use native.Mathlib.Nat.{le-refl, one-mul, zero-add}
 use native.Mathlib.Omega.{arith}
 use lib.Dec.{lit<, lit≤}
 use lib.ListN.{length, take, drop}
 use lib.Seq.{take-all, drop-drop}
 use Rattle.words.specs.Bytes.{number, digits, fromLe, toLe, part, put}
-use Rattle.words.proofs.Digits.{Below, below-take, below-drop, below-digits, length-digits, number-append, number-drop, number-take}
-use Rattle.words.proofs.Digits.{number-exact, number-lt-exact, digits-cut, digits-append, digits-exact, pow-mul}
+use Rattle.words.proofs.Digits.{Below, below-take, below-drop, below-digits, length-digits, number-drop, number-take}
+use Rattle.words.proofs.Digits.{number-exact, digits-cut, digits-exact, pow-mul}
 use Rattle.words.proofs.Parts.{length-part, drop-take, part-digits, number-parts, copy-more}
 use Rattle.words.proofs.Puts.{put-put, copy-over}
 use Rattle.words.proofs.Words.{part-lt}
 use Rattle.counter.specs.Counter.{major, minors, counterBlock}
+use Rattle.minors.proofs.Lanes.{lanes, scaled-lt}
 use Rattle.counter.proofs.Laws.{length-minors, length-counterBlock, below-counterBlock, major-counterBlock, minors-counterBlock}
 
 -- ---- digits of base 128 as bytes
@@ -21,17 +22,21 @@ use Rattle.counter.proofs.Laws.{length-minors, length-counterBlock, below-count
 spread-below : (n x : ℕ) → Below 256 (digits 128 n x)
 spread-below n x = record { at = λ i. omega (arith, below-digits 128 n x (lit< tt) .at i) }
 
-pub spread-lt : (n x : ℕ) {r : ℕ} → r ≡ number 256 (digits 128 n x) → r < 256 ^ n
-spread-lt n x e = rw e (number-lt-exact 256 n (digits 128 n x) (length-digits 128 n x) (spread-below n x))
+-- w has the digits of x, a byte each
+pub record Word (x w : ℕ) : Type 0 where
+  pub fits : x < 128 ^ 8
+  pub bytes : w ≡ 1 * lanes 7 1 8 x
+  pub small : w < 2 ^ 63
 
--- two halves of as many digits
-pub spread : (n x : ℕ)
-    → number 256 (digits 128 n (x % 128 ^ n)) + number 256 (digits 128 n (x / 128 ^ n)) * 256 ^ n ≡ number 256 (digits 128 (n + n) x)
-spread n x =
-    let high = digits 128 n (x / 128 ^ n) in
-    ap₂ (λ (l : List ℕ) (m : ℕ). number 256 l + m) (digits-cut 128 n x (lit< tt)) (mul-comm (number 256 high) (256 ^ n))
-    ∙ ap (λ (k : ℕ). number 256 (digits 128 n x) + 256 ^ k * number 256 high) (sym (length-digits 128 n x))
-    ∙ sym (ap (number 256) (digits-append 128 n n x) ∙ number-append 256 (digits 128 n x) high)
+pub word : (s : List ℕ) (at : ℕ) {w : ℕ} → at + 8 ≤ length s → Below 128 s → w ≡ fromLe (part s at 8) → Word (number 128 (part s at 8)) w
+word s at {w} room below e =
+    let ds = part s at 8 in
+    let x = number 128 ds in
+    let bytes : w ≡ 1 * lanes 7 1 8 x =
+    e ∙ ap fromLe (sym (digits-exact 128 8 ds (length-part s at 8 room) (below-take 8 (drop at s) (below-drop at s below))))
+    ∙ sym (one-mul (lanes 7 1 8 x))
+    in
+    record { fits = part-lt 8 s at below; bytes = bytes; small = omega (arith, scaled-lt 7 1 2 8 x (lit≤ tt)) }
 
 -- ---- a group of a block
 
@@ -116,7 +121,7 @@ module _ {m : ℕ} {ms : List ℕ} (ok : Packable m ms) where
     pub packed-lt : word < 2 ^ 64
     packed-lt = rw (p .last) (part-lt 8 block (7 * g) (below-counterBlock m ms))
 
-    pub packed-word : {x : ℕ} → x ≡ number 128 (part ms (8 * g) 8) → word / 2 ^ 56 + 256 * x ≡ fromLe (part block (7 * (g + 1)) 8)
+    pub packed-word : {x : ℕ} → x ≡ 128 * number 128 (part ms (8 * g) 8) → word / 2 ^ 56 + 2 * x ≡ fromLe (part block (7 * (g + 1)) 8)
     packed-word {x} e =
         let size = length-counterBlock m ms in
         let next : 7 * g + 7 ≡ 7 * (g + 1) = omega arith in
@@ -127,7 +132,7 @@ module _ {m : ℕ} {ms : List ℕ} (ok : Packable m ms) where
         (below-take 8 (drop (7 * g) block) (below-drop (7 * g) block (below-counterBlock m ms))))
         ∙ ap fromLe (drop-take 7 1 (drop (7 * g) block) ∙ ap (take 1) (drop-drop 7 (7 * g) block ∙ ap (λ (k : ℕ). drop k block) next))
         in
-        let low = e ∙ sym (group-number g hg) ∙ ap (λ (k : ℕ). fromLe (part block k 7)) (sym group) in
+        let low = sym (group-number g hg) ∙ ap (λ (k : ℕ). fromLe (part block k 7)) (sym group) in
         omega (arith, number-parts 256 1 7 block (7 * (g + 1)) (omega arith))
 
     pub packed-next : {after : List ℕ} {word' : ℕ} → word' ≡ fromLe (part block (7 * (g + 1)) 8)

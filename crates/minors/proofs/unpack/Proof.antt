@@ -33,8 +33,8 @@ load64-requires c κs = omega arith
 mul-store64 : tie.Need-mul-store64 Inv-loop μ-loop
 mul-store64 c = omega arith
 
-eight-requires : tie.Need-eight-requires Inv-loop μ-loop
-eight-requires c κs = omega arith
+spread-requires : tie.Need-spread-requires Inv-loop μ-loop
+spread-requires c κs = omega arith
 
 store64-requires : tie.Need-store64-requires Inv-loop μ-loop
 store64-requires c κs = omega arith
@@ -55,7 +55,7 @@ loop-again c =
       (
         call .store64 .ensures
             ∙ ap₂ {C = List ℕ} (λ (l : List ℕ) (x : ℕ). put l (8 * at .loop .g) (toLe 8 x))
-            (at .loop .inv .1 .0) (call .before .eight .ensures)
+            (at .loop .inv .1 .0) (call .before .spread .ensures)
             ∙ unpack-next (start .args .block .now) (start .args .out .now) (at .loop .g) (words .load64 .result) (start .pre .1)
             (record { at = λ i. at .before .before .shared-slice-known .given i .fits }) (omega arith) (words .load64 .ensures),
         call .store64 .kept .0 ∙ at .loop .inv .1 .1,
@@ -83,7 +83,7 @@ unpack-spec =
     add-load64
     load64-requires
     mul-store64
-    eight-requires
+    spread-requires
     store64-requires
     add-g
     loop-less
