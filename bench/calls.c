@@ -1,4 +1,5 @@
-// Times each call at each depth: ours, plain C at -O3 (memory.c over plain.c), and plain C over libsodium's primitives.
+// Times each call at each depth, in family 1 those that it changes: ours, plain C at -O3 (memory.c over plain.c), and plain C over
+// libsodium's primitives.
 // The three take turns on the same state, a row's turns are spread over the whole run, and the median turn counts: what
 // else the machine does for a while touches a few turns of every row and not all turns of a few. A call that changes the
 // module is followed by putting back what it changed; the time of that, measured in the same turns, is taken off.
@@ -11,6 +12,10 @@ CALLS(plain_)
 CALLS(sodium_)
 
 enum { OURS, PLAIN, SODIUM, WHO, BACK = WHO, TIMED, DEPTHS = 3, TURNS = 101, CELL = 72, CHANGED = 80 };
+
+// The rows of a depth: each scenario of the benchmark, then in family 1 these.
+static const enum scenario by_tag[] = { CACHED_READ, CACHED_WRITE, IDLE_RECOVERY, SMALL_RECOVERY };
+enum { BY_TAG = sizeof by_tag / sizeof *by_tag, ROWS = BENCH_ROWS + BY_TAG };
 
 static const calls all[WHO] = { CALLS_OF(nv_), CALLS_OF(plain_), CALLS_OF(sodium_) };
 static const double turn_ns = 400e3;
@@ -76,7 +81,7 @@ static double median(double *times)
 // Whether the three leave the same.
 static int agree(module *m, undo *u, enum scenario s)
 {
-    module first = make_module(&all[OURS], m->depth, malloc);
+    module first = make_module(&all[OURS], m->depth, m->family, malloc);
     int same = 1;
     for (int who = 0; who < WHO; who++) {
         copy_module(m, &u->before);
@@ -90,7 +95,7 @@ static int agree(module *m, undo *u, enum scenario s)
     find_changes(u, m);
     if (s == FORMAT)
         u->any = 0;
-    free(first.control), free(first.array), free(first.cache);
+    free_module(&first);
     return same;
 }
 
@@ -103,10 +108,10 @@ typedef struct {
     double times[TIMED][TURNS];
 } row;
 
-static int make_row(row *r, unsigned depth, enum scenario s)
+static int make_row(row *r, unsigned depth, unsigned family, enum scenario s)
 {
-    r->m = make_module(&all[PLAIN], depth, malloc);
-    r->u.before = make_module(&all[PLAIN], depth, malloc);
+    r->m = make_module(&all[PLAIN], depth, family, malloc);
+    r->u.before = make_module(&all[PLAIN], depth, family, malloc);
     r->s = s;
     prepare(&r->m, s);
     copy_module(&r->u.before, &r->m);
@@ -134,23 +139,25 @@ static void print_row(row *r, int same)
     for (int who = 0; who < WHO && r->u.any; who++)
         ns[who] -= ns[BACK];
     double fastest = ns[PLAIN] < ns[SODIUM] ? ns[PLAIN] : ns[SODIUM];
-    printf("%u  %-24s %10.0f %10.0f %10.0f %10.2f%s\n", r->m.depth, scenario_names[r->s], ns[OURS], ns[PLAIN], ns[SODIUM],
-           ns[OURS] / fastest, same ? "" : "  the three do not agree");
+    printf("%u  %-24s%-10s %10.0f %10.0f %10.0f %10.2f%s\n", r->m.depth, scenario_names[r->s], r->m.family ? "family 1" : "",
+           ns[OURS], ns[PLAIN], ns[SODIUM], ns[OURS] / fastest, same ? "" : "  the three do not agree");
 }
 
 int main(void)
 {
-    static row rows[DEPTHS * BENCH_ROWS];
-    int same[DEPTHS * BENCH_ROWS], wrong = 0;
+    static row rows[DEPTHS * ROWS];
+    int same[DEPTHS * ROWS], wrong = 0;
     if (sodium_init() < 0)
         return 1;
-    for (int k = 0; k < DEPTHS * BENCH_ROWS; k++)
-        same[k] = make_row(&rows[k], 1 + k / BENCH_ROWS, k % BENCH_ROWS);
+    for (int k = 0; k < DEPTHS * ROWS; k++) {
+        int n = k % ROWS, family = n >= BENCH_ROWS;
+        same[k] = make_row(&rows[k], 1 + k / ROWS, family, family ? by_tag[n - BENCH_ROWS] : (enum scenario)n);
+    }
     for (int i = 0; i < TURNS; i++)
-        for (int k = 0; k < DEPTHS * BENCH_ROWS; k++)
+        for (int k = 0; k < DEPTHS * ROWS; k++)
             take_turns(&rows[k], i);
-    printf("%-27s %10s %10s %10s %10s\n", "depth, ns for one call", "ours", "plain C", "libsodium", "ours/fastest");
-    for (int k = 0; k < DEPTHS * BENCH_ROWS; k++) {
+    printf("%-37s %10s %10s %10s %10s\n", "depth, ns for one call", "ours", "plain C", "libsodium", "ours/fastest");
+    for (int k = 0; k < DEPTHS * ROWS; k++) {
         print_row(&rows[k], same[k]);
         wrong |= !same[k];
     }

@@ -1,7 +1,8 @@
 // The whole layer in plain C11, as firmware would have it without proofs: what the benchmark compares with, and what the
 // host tests can be tried on. Works in place: the path is found without touching the cache, the batch is staged in the
 // queue of the control record, and the cache is written after the stores.
-// -DPREFIX=.. sets the prefix of the functions (nv_ if none), -DSODIUM takes the primitives from libsodium.
+// -DPREFIX=.. sets the prefix of the functions (nv_ if none), -DSODIUM takes the primitives from libsodium. -DTAG_BITS=.. cuts
+// the data tags of modules without a phase byte to so many of their lowest bits: a test can find two that agree.
 #include "memory.h"
 #include <stdatomic.h>
 #include <string.h>
@@ -13,6 +14,10 @@
 #define JOIN(a, b) JOINED(a, b)
 #define NAME(call) JOIN(PREFIX, call)
 
+#ifndef TAG_BITS
+#define TAG_BITS 64
+#endif
+
 #ifdef SODIUM
 #include <sodium.h>
 #else
@@ -23,7 +28,7 @@ enum { CELL = 72, CONTENT = 64, SLOT = 73, PLACE = 80, LEVELS = 4, SLOTS = 10, Q
 enum { DEPTH_AT = 5, ROOT_AT = 7, COUNT_AT = 15, NEW_ROOT_AT = 16, QUEUE_AT = 24 }; // control record
 enum { TURN_AT = 664, TURN_PAGE_AT = 665, TURN_MASK_AT = 673 };                   // its section of a turn
 enum { DIRTY_AT = 8, CONTENT_AT = 9 };                                            // slot of the cache
-enum { MINOR_MAX = 127, STOP_LOSS = 4 };
+enum { MINOR_MAX = 127, STOP_LOSS = 4, DATA_MESSAGE = 88 };
 
 typedef struct {
     uint32_t node[LEVELS]; // the first cell of each level
@@ -40,7 +45,7 @@ typedef struct {
     const uint8_t *keys;
     uint8_t *control, *array, *cache;
     const map *map;
-    unsigned depth;
+    unsigned depth, family;
 } module;
 
 // Where the nodes of a page's path are: in the cache or, if loaded has the bit of the level, still in the array.
@@ -113,15 +118,53 @@ static uint64_t node_tag(const module *m, const uint8_t *content, unsigned level
     return tag_in(m, message, level, index);
 }
 
-// A written data cell's side bytes: phase, then seven bytes of tag.
-static uint64_t data_side(const module *m, const uint8_t *content, uint64_t line, const uint8_t *block, uint32_t minor)
+static uint64_t kept_tag(uint64_t tag)
 {
-    uint8_t message[88];
+    return tag & UINT64_MAX >> (64 - TAG_BITS);
+}
+
+static void data_message(uint8_t message[DATA_MESSAGE], const uint8_t *content, uint64_t line, const uint8_t *block, uint32_t minor)
+{
     memcpy(message, content, CONTENT);
     put64(message + 64, line);
     memcpy(message + 72, block, 8);
     put64(message + 80, minor);
-    return hash(m, message, 88) << 8 | minor % 4;
+}
+
+// A written data cell's side bytes: phase, then seven bytes of tag; or without a phase byte the tag.
+static uint64_t data_side(const module *m, const uint8_t *content, uint64_t line, const uint8_t *block, uint32_t minor)
+{
+    uint8_t message[DATA_MESSAGE];
+    data_message(message, content, line, block, minor);
+    uint64_t tag = hash(m, message, DATA_MESSAGE);
+    return m->family == NV_FAMILY_TAG ? kept_tag(tag) : tag << 8 | minor % 4;
+}
+
+// Which of so many minors from the first on, as bits, a data cell without a phase byte has the tag of.
+static unsigned tags_fit(const module *m, const uint8_t *cell, uint64_t line, const uint8_t *block, uint32_t first, unsigned count)
+{
+    uint64_t side = get64(cell + CONTENT);
+    unsigned fit = 0;
+#ifdef SODIUM
+    uint8_t message[DATA_MESSAGE];
+    data_message(message, cell, line, block, first);
+    for (unsigned i = 0; i < count; i++) {
+        put64(message + 80, first + i);
+        fit |= (unsigned)(kept_tag(hash(m, message, DATA_MESSAGE)) == side) << i;
+    }
+#else
+    plain_sip alike = plain_sip_start(m->keys + 32); // content, line and major are hashed once
+    for (int i = 0; i < CONTENT; i += 8)
+        plain_sip_word(&alike, get64(cell + i));
+    plain_sip_word(&alike, line);
+    plain_sip_word(&alike, get64(block));
+    for (unsigned i = 0; i < count; i++) {
+        plain_sip s = alike;
+        plain_sip_word(&s, first + i);
+        fit |= (unsigned)(kept_tag(plain_sip_end(s, 0, DATA_MESSAGE)) == side) << i;
+    }
+#endif
+    return fit;
 }
 
 // ---- Counter blocks: the eight bytes that end with a group's seven hold each of its eight minors whole ----
@@ -213,9 +256,18 @@ static int turn_valid(const uint8_t *control)
         && get64(control + TURN_MASK_AT) != 0;
 }
 
+static const char marks[2][5] = { [NV_FAMILY_PHASE] = "PIGK", [NV_FAMILY_TAG] = "PIGN" };
+
+static int has_mark(const uint8_t *control, unsigned family)
+{
+    return memcmp(control, marks[family], 4) == 0;
+}
+
 static int control_valid(const uint8_t *control)
 {
-    if (memcmp(control, "PIGK", 4) != 0 || control[4] != 1 || control[6] != 1)
+    if (!has_mark(control, NV_FAMILY_PHASE) && !has_mark(control, NV_FAMILY_TAG))
+        return 0;
+    if (control[4] != 1 || control[6] != 1)
         return 0;
     if (control[DEPTH_AT] < 1 || control[DEPTH_AT] > 3 || control[COUNT_AT] > QUEUE)
         return 0;
@@ -250,6 +302,7 @@ static uint32_t open_module(module *m, uint64_t keys_len, uint64_t control_len, 
     if (!control_valid(m->control))
         return NV_BAD_CONTROL;
     m->depth = m->control[DEPTH_AT];
+    m->family = has_mark(m->control, NV_FAMILY_TAG);
     m->map = &maps[m->depth];
     if (array_len != CELL * (size_t)m->map->cells)
         return NV_BAD_ARRAY_LENGTH;
@@ -391,9 +444,9 @@ static uint64_t run_batch(const module *m, unsigned count, uint64_t root, uint64
 static uint64_t run_turn_batch(const module *m, unsigned count, uint64_t root, uint64_t page, uint64_t left, uint64_t allowance)
 {
     if (allowance > count) {
-        m->control[TURN_AT] = left != 0;
         put64(m->control + TURN_PAGE_AT, left != 0 ? page : 0);
         put64(m->control + TURN_MASK_AT, left);
+        m->control[TURN_AT] = left != 0;
     }
     return run_batch(m, count, root, allowance);
 }
@@ -405,19 +458,19 @@ static uint64_t stores_needed(unsigned count)
 
 // ---- The calls ----
 
-uint32_t NAME(format)(uint64_t depth, const uint8_t *keys, uint64_t keys_len, uint8_t *control, uint64_t control_len,
-                      uint8_t *array, uint64_t array_len, uint8_t *cache, uint64_t cache_len, uint8_t *numbers,
-                      uint64_t numbers_len)
+uint32_t NAME(format)(uint64_t depth, uint64_t family, const uint8_t *keys, uint64_t keys_len, uint8_t *control,
+                      uint64_t control_len, uint8_t *array, uint64_t array_len, uint8_t *cache, uint64_t cache_len,
+                      uint8_t *numbers, uint64_t numbers_len)
 {
     if (numbers_len != NV_NUMBERS_LENGTH)
         return NV_REFUSED + NV_BAD_BUFFER_LENGTH;
-    if (depth < 1 || depth > 3)
+    if (depth < 1 || depth > 3 || family > NV_FAMILY_TAG)
         return refuse(numbers, NV_BAD_DEPTH);
     if (keys_len != NV_KEYS_LENGTH)
         return refuse(numbers, NV_BAD_KEYS_LENGTH);
     if (control_len != NV_CONTROL_LENGTH)
         return refuse(numbers, NV_BAD_CONTROL_LENGTH);
-    module m = { keys, control, array, cache, &maps[depth], (unsigned)depth };
+    module m = { keys, control, array, cache, &maps[depth], (unsigned)depth, (unsigned)family };
     if (array_len != CELL * (size_t)m.map->cells)
         return refuse(numbers, NV_BAD_ARRAY_LENGTH);
     if (cache_len != SLOT * (size_t)m.map->slots)
@@ -428,7 +481,8 @@ uint32_t NAME(format)(uint64_t depth, const uint8_t *keys, uint64_t keys_len, ui
     for (unsigned l = 0; l < depth; l++)
         for (uint64_t i = 0; i < (uint64_t)1 << 3 * (depth - l); i++)
             put64(node_cell(&m, l + 1, i >> 3) + 8 * (i & 7), node_tag(&m, node_cell(&m, l, i), l, i));
-    memcpy(control, "PIGK\1", 5);
+    memcpy(control, marks[family], 4);
+    control[DEPTH_AT - 1] = 1;
     control[DEPTH_AT] = (uint8_t)depth;
     control[DEPTH_AT + 1] = 1;
     put64(control + ROOT_AT, node_tag(&m, node_cell(&m, m.depth, 0), m.depth, 0));
@@ -441,7 +495,7 @@ uint32_t NAME(read)(const uint8_t *keys, uint64_t keys_len, uint8_t *control, ui
 {
     if (numbers_len != NV_NUMBERS_LENGTH)
         return NV_REFUSED + NV_BAD_BUFFER_LENGTH;
-    module m = { keys, control, array, cache, 0, 0 };
+    module m = { keys, control, array, cache, 0, 0, 0 };
     uint32_t refusal = open_module(&m, keys_len, control_len, array_len, cache_len);
     if (!refusal)
         refusal = open_line(&m, line, out_len);
@@ -522,7 +576,7 @@ uint32_t NAME(write)(const uint8_t *keys, uint64_t keys_len, uint8_t *control, u
 {
     if (numbers_len != NV_NUMBERS_LENGTH)
         return NV_REFUSED + NV_BAD_BUFFER_LENGTH;
-    module m = { keys, control, array, cache, 0, 0 };
+    module m = { keys, control, array, cache, 0, 0, 0 };
     uint32_t refusal = open_module(&m, keys_len, control_len, array_len, cache_len);
     if (!refusal)
         refusal = open_line(&m, line, text_len);
@@ -605,7 +659,7 @@ uint32_t NAME(turn)(const uint8_t *keys, uint64_t keys_len, uint8_t *control, ui
 {
     if (numbers_len != NV_NUMBERS_LENGTH)
         return NV_REFUSED + NV_BAD_BUFFER_LENGTH;
-    module m = { keys, control, array, cache, 0, 0 };
+    module m = { keys, control, array, cache, 0, 0, 0 };
     uint32_t refusal = open_module(&m, keys_len, control_len, array_len, cache_len);
     if (!refusal)
         refusal = open_turn(&m, page);
@@ -635,24 +689,86 @@ uint32_t NAME(turn)(const uint8_t *keys, uint64_t keys_len, uint8_t *control, ui
 
 // ---- Recovery ----
 
-// A page's counter block with its minors brought forward by the phases of its data cells; a refusal with its line, or 0.
+// Eight minors are brought forward at once, in lanes of 7 bits.
+#define LANES(x) ((uint64_t)(x) * 0x2040810204081)
+
+static uint64_t lanes_sum(uint64_t lanes)
+{
+    return lanes * LANES(1) >> 49 & 127;
+}
+
+// The first line of a group that fails, and how.
+static uint32_t bad_minor(const module *m, uint64_t first, uint64_t minors, uint64_t *line)
+{
+    for (*line = first;; ++*line, minors >>= 7) {
+        uint64_t phase = m->array[CELL * *line + CONTENT], minor = minors & 127;
+        if (phase > 3)
+            return NV_BAD_PHASE;
+        if (minor + ((phase - minor) & 3) > MINOR_MAX)
+            return NV_BAD_COUNTER;
+    }
+}
+
+// Eight minors brought forward by the phases of their lines, from the first on; a refusal with its line, or 0.
+static uint32_t forward_by_phases(const module *m, uint64_t first, uint64_t *minors, uint64_t *sum, uint64_t *line)
+{
+    const uint8_t *at = m->array + CELL * first + CONTENT;
+    uint64_t phases = 0, any = 0;
+    for (unsigned i = 0; i < 8; i++) {
+        any |= at[CELL * i];
+        phases |= (uint64_t)at[CELL * i] << 7 * i;
+    }
+    uint64_t ahead = ((phases | LANES(4)) - (*minors & LANES(3))) & LANES(3), raised = (*minors & LANES(63)) + ahead;
+    if (any > 3 || (raised & *minors & LANES(64)) != 0)
+        return bad_minor(m, first, *minors, line);
+    *sum += lanes_sum(ahead);
+    *minors = raised | (*minors & LANES(64));
+    return 0;
+}
+
+static int is_zero(const uint8_t *cell)
+{
+    uint64_t any = 0;
+    for (int i = 0; i < CELL; i += 8)
+        any |= get64(cell + i);
+    return any == 0;
+}
+
+// The same by their tags: each is the one that fits of the stored minor and the next three, none past 127, where 0 is that of a
+// zero cell.
+static uint32_t forward_by_tags(const module *m, const uint8_t *block, uint64_t first, uint64_t *minors, uint64_t *sum, uint64_t *line)
+{
+    uint64_t ahead = 0;
+    for (unsigned i = 0; i < 8; i++) {
+        const uint8_t *cell = m->array + CELL * (first + i);
+        uint32_t minor = *minors >> 7 * i & 127, tagged = minor + (minor == 0);
+        uint32_t last = minor + 3 > MINOR_MAX ? MINOR_MAX : minor + 3;
+        unsigned fit = tags_fit(m, cell, first + i, block, tagged, last - tagged + 1) << (tagged - minor);
+        if (minor == 0)
+            fit |= (unsigned)is_zero(cell);
+        if (fit == 0 || (fit & (fit - 1)) != 0) {
+            *line = first + i;
+            return fit == 0 ? NV_NO_COUNTER : NV_SEVERAL_COUNTERS;
+        }
+        ahead |= (uint64_t)__builtin_ctz(fit) << 7 * i;
+    }
+    *sum += lanes_sum(ahead);
+    *minors += ahead;
+    return 0;
+}
+
+// A page's counter block with its minors brought forward by its data cells; a refusal with its line, or 0.
 static uint32_t rebuild_block(const module *m, uint64_t page, uint8_t *block, uint64_t *sum, uint64_t *line)
 {
-    const uint8_t *phase = m->array + CELL * 64 * page + CONTENT;
     memcpy(block, node_cell(m, 0, page), CONTENT);
     for (unsigned group = 0; group < 8; group++) {
         uint8_t *at = block + 7 + 7 * group;
-        uint64_t minors = get64(at), step = 0;
-        for (unsigned shift = 8; shift < 64; shift += 7, phase += CELL) {
-            uint64_t minor = minors >> shift & 127, ahead = (*phase - minor) & 3;
-            if (*phase > 3 || minor + ahead > MINOR_MAX) {
-                *line = (uint64_t)(phase - m->array) / CELL;
-                return *phase > 3 ? NV_BAD_PHASE : NV_BAD_COUNTER;
-            }
-            step |= ahead << shift;
-            *sum += ahead;
-        }
-        put64(at, minors + step);
+        uint64_t first = 64 * page + 8 * group, word = get64(at), minors = word >> 8;
+        uint32_t refusal = m->family == NV_FAMILY_TAG ? forward_by_tags(m, block, first, &minors, sum, line)
+                                                      : forward_by_phases(m, first, &minors, sum, line);
+        if (refusal)
+            return refusal;
+        put64(at, minors << 8 | (word & 255));
     }
     return 0;
 }
@@ -710,7 +826,7 @@ uint32_t NAME(recover)(const uint8_t *keys, uint64_t keys_len, uint8_t *control,
 {
     if (numbers_len != NV_NUMBERS_LENGTH)
         return NV_REFUSED + NV_BAD_BUFFER_LENGTH;
-    module m = { keys, control, array, cache, 0, 0 };
+    module m = { keys, control, array, cache, 0, 0, 0 };
     uint32_t refusal = open_module(&m, keys_len, control_len, array_len, cache_len);
     if (refusal)
         return refuse(numbers, refusal);
@@ -747,7 +863,7 @@ uint32_t NAME(dirty_pages)(const uint8_t *control, uint64_t control_len, const u
         return refuse(numbers, NV_BAD_CONTROL_LENGTH);
     if (!control_valid(control))
         return refuse(numbers, NV_BAD_CONTROL);
-    module m = { 0, 0, 0, 0, &maps[control[DEPTH_AT]], control[DEPTH_AT] };
+    module m = { 0, 0, 0, 0, &maps[control[DEPTH_AT]], control[DEPTH_AT], 0 };
     if (cache_len != SLOT * (size_t)m.map->slots)
         return refuse(numbers, NV_BAD_CACHE_LENGTH);
     if (list_len != NV_LIST_LENGTH)

@@ -1,22 +1,12 @@
 // ChaCha20 (RFC 8439, 2.1 to 2.3) and SipHash-2-4 in plain C, as their documents have them: what the benchmark compares with.
 #include "plain.h"
-#include <string.h>
 
 #define ROTL32(x, n) (((x) << (n)) | ((x) >> (32 - (n))))
-#define ROTL64(x, n) (((x) << (n)) | ((x) >> (64 - (n))))
 
-// Words are little-endian, as this machine has them.
 static uint32_t load32(const uint8_t *s)
 {
     uint32_t x;
     memcpy(&x, s, 4);
-    return x;
-}
-
-static uint64_t load64(const uint8_t *s)
-{
-    uint64_t x;
-    memcpy(&x, s, 8);
     return x;
 }
 
@@ -49,37 +39,15 @@ void plain_chacha20_block(const uint8_t key[32], uint32_t counter, const uint8_t
     }
 }
 
-#define SIPROUND \
-    (v0 += v1, v1 = ROTL64(v1, 13), v1 ^= v0, v0 = ROTL64(v0, 32), \
-     v2 += v3, v3 = ROTL64(v3, 16), v3 ^= v2, \
-     v0 += v3, v3 = ROTL64(v3, 21), v3 ^= v0, \
-     v2 += v1, v1 = ROTL64(v1, 17), v1 ^= v2, v2 = ROTL64(v2, 32))
-
 void plain_siphash24(const uint8_t key[16], const uint8_t *message, size_t n, uint8_t out[8])
 {
-    uint64_t k0 = load64(key), k1 = load64(key + 8);
-    uint64_t v0 = k0 ^ 0x736f6d6570736575, v1 = k1 ^ 0x646f72616e646f6d;
-    uint64_t v2 = k0 ^ 0x6c7967656e657261, v3 = k1 ^ 0x7465646279746573;
-    uint64_t last = (uint64_t)n << 56;
+    plain_sip s = plain_sip_start(key);
     const uint8_t *end = message + n / 8 * 8;
-    for (; message != end; message += 8) {
-        uint64_t m = load64(message);
-        v3 ^= m;
-        SIPROUND;
-        SIPROUND;
-        v0 ^= m;
-    }
+    uint64_t rest = 0;
+    for (; message != end; message += 8)
+        plain_sip_word(&s, plain_load64(message));
     for (size_t i = 0; i < n % 8; i++)
-        last |= (uint64_t)message[i] << (8 * i);
-    v3 ^= last;
-    SIPROUND;
-    SIPROUND;
-    v0 ^= last;
-    v2 ^= 0xff;
-    SIPROUND;
-    SIPROUND;
-    SIPROUND;
-    SIPROUND;
-    v0 ^= v1 ^ v2 ^ v3;
-    memcpy(out, &v0, 8);
+        rest |= (uint64_t)message[i] << (8 * i);
+    uint64_t hash = plain_sip_end(s, rest, n);
+    memcpy(out, &hash, 8);
 }

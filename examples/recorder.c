@@ -1,10 +1,11 @@
 // A recorder on a host, to copy from: numbered records in a module that a file keeps, and the boot that goes on with them.
 //
-//     recorder format FILE                   makes a module in FILE, which must not exist, with fresh keys
+//     recorder format FILE [FAMILY]          makes a module in FILE, which must not exist, with fresh keys
 //     recorder run FILE [RECORDS [WITNESS]]  boots, then records until it is killed or has made RECORDS
 //     recorder check FILE [WITNESS]          boots, and so checks every row, without a store to FILE
-//     recorder try FILE SEED                 formats FILE as above, then loses power hundreds of times, at any store
+//     recorder try FILE SEED [FAMILY]        formats FILE as above, then loses power hundreds of times, at any store
 //
+// FAMILY is 0 for a module with a phase byte beside each line, and 1 for one of the older modules without; 0 if there is none.
 // FILE stands for the memory that outlasts a power failure. It is mapped, so each byte that the library stores is in it at
 // once, and a SIGKILL leaves what was stored so far: a power failure between two instructions. (When the host itself loses
 // power that is not so: the system writes the file's pages in a sequence of its own.) WITNESS is for a test: 8 bytes, in
@@ -296,14 +297,14 @@ static void make_keys(uint8_t keys[NV_KEYS_LENGTH])
 // ---- Commands ----
 
 // Once in a module's life, on a supply that does not fail, and never over another module: format destroys.
-static memory *format(const char *path)
+static memory *format(const char *path, uint64_t family)
 {
     uint8_t keys[NV_KEYS_LENGTH], cache[NV_CACHE_LENGTH_1];
     make_keys(keys);
     memory *kept = map_file(path, O_RDWR | O_CREAT | O_EXCL, sizeof *kept);
     memcpy(kept->keys, keys, sizeof keys);
     nv_module module = nv_module_of(DEPTH, kept->keys, kept->control, kept->array, cache);
-    nv_answer answer = nv_module_format(&module);
+    nv_answer answer = nv_module_format(&module, family);
     if (answer.code == NV_DONE)
         answer = nv_module_write(&module, CHECK_ROW, check_text, UINT64_MAX);
     if (answer.code != NV_DONE)
@@ -408,10 +409,10 @@ static void lose_power(memory *kept, uint64_t *answered)
 }
 
 // Index rows are near to worn after two passes.
-static void try_supply(const char *path, uint64_t seed)
+static void try_supply(const char *path, uint64_t seed, uint64_t family)
 {
     static recorder r;
-    memory *kept = format(path);
+    memory *kept = format(path, family);
     state = (seed + 1) * UINT64_C(0x9e3779b97f4a7c15) | 1;
     for (boot(&r, kept); r.last < 2 * PASS;)
         recorded(&r);
@@ -438,20 +439,28 @@ static int is_number(const char *word, uint64_t *number)
     return word[0] >= '0' && word[0] <= '9' && *end == '\0' && errno == 0;
 }
 
+// The family in a further word, or if there is none the one with a phase byte.
+static int is_family(int count, char **words, int at, uint64_t *family)
+{
+    *family = NV_FAMILY_PHASE;
+    return count == at || (count == at + 1 && is_number(words[at], family) && *family <= NV_FAMILY_TAG);
+}
+
 int main(int count, char **words)
 {
     const char *command = count > 2 ? words[1] : "";
-    uint64_t number = UINT64_MAX;
-    if (strcmp(command, "format") == 0 && count == 3)
-        format(words[2]);
+    uint64_t number = UINT64_MAX, family;
+    if (strcmp(command, "format") == 0 && is_family(count, words, 3, &family))
+        format(words[2], family);
     else if (strcmp(command, "run") == 0 && count <= 5 && (count == 3 || is_number(words[3], &number)))
         run(words[2], number, count > 4 ? words[4] : NULL);
     else if (strcmp(command, "check") == 0 && count <= 4)
         check(words[2], count > 3 ? words[3] : NULL);
-    else if (strcmp(command, "try") == 0 && count == 4 && is_number(words[3], &number))
-        try_supply(words[2], number);
+    else if (strcmp(command, "try") == 0 && count > 3 && is_number(words[3], &number) && is_family(count, words, 4, &family))
+        try_supply(words[2], number, family);
     else {
-        fputs("usage: recorder format FILE | run FILE [RECORDS [WITNESS]] | check FILE [WITNESS] | try FILE SEED\n", stderr);
+        fputs("usage: recorder format FILE [FAMILY] | run FILE [RECORDS [WITNESS]] | check FILE [WITNESS] | try FILE SEED [FAMILY]\n",
+              stderr);
         return USAGE;
     }
     return 0;

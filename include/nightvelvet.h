@@ -6,25 +6,27 @@
 // the same calls over a struct.
 //
 // The worst that can happen:
-//   - WRONG PAD KEYS ARE NOT REFUSED. Of the keys only bytes 32 to 47, for the tags, are checked (24, 25, 29). With wrong
+//   - WRONG PAD KEYS ARE NOT REFUSED. Of the keys only bytes 32 to 47, for the tags, are checked (24, 25, 29, 33). With wrong
 //     bytes 0 to 31, for the pads, recovery is done, and a read is done and gives 64 bytes of junk. A write or a turn is
 //     done too, and then the right keys read junk: the texts of a page that was turned so are gone. So write a known text
 //     to a row on a page that is never turned, and after power-up read it before the first write or turn.
 //   - THE COMMIT OF A TURN MUST BE STORED WHOLE: 26 bytes in two places of the control record. If power fails inside it,
-//     lines of the page may be lost, or the next recovery refused as 21, 29 or 32, and with it the whole module. No other
-//     store needs this.
+//     lines of the page may be lost, or the next recovery or the one after it is refused as 21, 29, 32 or 33, and with it
+//     the whole module. No other store needs this.
 //   - NOTHING MAY BE READ, WRITTEN OR TURNED BEFORE A RECOVERY IS DONE, after power-up, a reset or NV_CUT. Not every such
 //     call is refused; a write can then cost the module, or put two texts under one pad.
-//   - WHERE THE RECOVERY AFTER A POWER FAILURE IS REFUSED as 21, 27, 28, 29 or 32, no text can be read through the library
-//     any more. Damage, wrong tag keys or a recovery left out lead there; power failures do not, but for one inside the commit
-//     of a turn. Keep array and control record as they are, and report.
+//   - WHERE THE RECOVERY AFTER A POWER FAILURE IS REFUSED as 21, 27 to 29 or 32 to 34, no text can be read through the
+//     library any more. Damage, wrong tag keys or a recovery left out lead there; power failures do not, but for one inside
+//     the commit of a turn, and for a 34 by chance: without a phase byte (NV_FAMILY_TAG) the tag of a line may happen to be
+//     right for another counter that recovery tries too, about 3 times in 2^64 for each line that it goes through. Keep
+//     array and control record as they are, and report.
 //
 // What the caller must ensure, since no check can see it:
 //   - each pointer is good for its length: for reading where it is const, else for reading and writing;
 //   - no two slices of a call overlap, and nothing else changes them while the call runs.
 // Every other input has a stated answer. A slice of length 0 has a wrong length in every call, so it is refused with
-// nothing read or written through its pointer, which may then be null. Lines, pages, depths and allowances may be any
-// number. Lengths have 64 bits on every target.
+// nothing read or written through its pointer, which may then be null. Lines, pages, depths, families and allowances may
+// be any number. Lengths have 64 bits on every target.
 #ifndef NIGHTVELVET_H
 #define NIGHTVELVET_H
 
@@ -32,8 +34,8 @@
 
 // The library has the change requests 1/14 to NV_VERSION/14:
 // 1 dirty pages are listed in rising number; 2 a page can be turned; 3 blank lines read as FF hex; 4 nothing is divided;
-// 5 a bad phase (28) and a bad counter (32) are refused apart.
-#define NV_VERSION 5
+// 5 a bad phase (28) and a bad counter (32) are refused apart; 6 modules without a phase byte (NV_FAMILY_TAG).
+#define NV_VERSION 6
 
 #ifdef __cplusplus
 extern "C" {
@@ -60,6 +62,10 @@ enum {
     NV_LINES_3 = 32768,          // and at depth 3
     NV_PAGE_LINES = 64,          // lines of a page: line n is on page n / NV_PAGE_LINES
 
+    // Families of modules, for format. Later calls find the family in the control record.
+    NV_FAMILY_PHASE = 0,         // beside each line a phase byte and 7 bytes of tag
+    NV_FAMILY_TAG = 1,           // beside each line 8 bytes of tag: the older modules
+
     // Each byte that a read of a line gives that was never written. A text may have these bytes too: go by the code.
     NV_BLANK_BYTE = 255,         // FF hex, in all NV_TEXT_LENGTH bytes
 
@@ -70,7 +76,7 @@ enum {
 
     // In the numbers of an answer: three of 8 bytes, little-endian, written whenever `numbers` is of NV_NUMBERS_LENGTH.
     // Another length of it is refused (7) before all else, with nothing written.
-    NV_STORES_AT = 0,            // the stores made: 0 with a refusal, but with 27 to 29 and 32 those of the pending part
+    NV_STORES_AT = 0,            // the stores made: 0 with a refusal, but with 27 to 29 and 32 to 34 those of the pending part
     NV_SUM_AT = 8,               // of a done recovery: by how much counters were brought forward
     NV_FIRST_AT = 8,             // of a refusal: the first number of its place, or 0
     NV_SECOND_AT = 16            // of a refusal: the second number of its place, or 0
@@ -81,10 +87,10 @@ enum {
     NV_DONE = 0,                // the call has done what it says
     NV_BLANK = 1,               // a read of a line that was never written; each byte of the output is NV_BLANK_BYTE
     NV_CUT = 2,                 // the allowance was smaller than the stores needed; it was used up, cache and output stay
-    NV_REFUSED = 100,           // nothing was done, but that 27 to 29 and 32 come after the pending stores of a recovery
+    NV_REFUSED = 100,           // nothing was done, but that 27 to 29 and 32 to 34 come after the pending stores of a recovery
 
     // Numbers of refusals.
-    NV_BAD_DEPTH = 1,           // format: the depth is not 1, 2 or 3
+    NV_BAD_DEPTH = 1,           // format: the depth is not 1, 2 or 3, or the family not 0 or 1
     NV_BAD_KEYS_LENGTH = 2,     // the keys are not of NV_KEYS_LENGTH
     NV_BAD_CONTROL_LENGTH = 3,  // the control record is not of NV_CONTROL_LENGTH
     NV_BAD_ARRAY_LENGTH = 4,    // the array has not the length of the depth
@@ -99,18 +105,20 @@ enum {
     NV_BAD_DATA = 25,           // a data cell has not its phase or tag, or no text where a turn is to go on; place: line
     NV_WORN = 26,               // the line's counter is at 127: turn its page, then write
     NV_BAD_SHADOW = 27,         // recovery: the shadow lists what no cache holds; place: slot
-    NV_BAD_PHASE = 28,          // recovery: a line's phase is over 3; place: line
+    NV_BAD_PHASE = 28,          // recovery, with a phase byte: a line's phase is over 3; place: line
     NV_BAD_ROOT = 29,           // recovery: the rebuilt tree has not the module's root
     NV_OPEN_PAGE = 30,          // the line's page is open: finish its turn first; of a turn: another page is open
     NV_WORN_PAGE = 31,          // turn: the page was turned 2^64 - 1 times
-    NV_BAD_COUNTER = 32         // recovery: a line's phase would bring its stored counter past 127; place: line
+    NV_BAD_COUNTER = 32,        // recovery, with a phase byte: it would bring a line's stored counter past 127; place: line
+    NV_NO_COUNTER = 33,         // recovery, without a phase byte: a line's data cell fits no counter; place: line
+    NV_SEVERAL_COUNTERS = 34    // recovery, without a phase byte: a line's data cell fits several; place: line
 };
 
-// Makes the module empty at a depth from 1 to 3, and destroys what it held. Makes no counted store; a power failure in it
-// is not covered.
-uint32_t nv_format(uint64_t depth, const uint8_t *keys, uint64_t keys_len, uint8_t *control, uint64_t control_len,
-                   uint8_t *array, uint64_t array_len, uint8_t *cache, uint64_t cache_len, uint8_t *numbers,
-                   uint64_t numbers_len);
+// Makes the module empty, at a depth from 1 to 3 and of a family, and destroys what it held. Makes no counted store; a power
+// failure in it is not covered.
+uint32_t nv_format(uint64_t depth, uint64_t family, const uint8_t *keys, uint64_t keys_len, uint8_t *control,
+                   uint64_t control_len, uint8_t *array, uint64_t array_len, uint8_t *cache, uint64_t cache_len,
+                   uint8_t *numbers, uint64_t numbers_len);
 
 // Reads a line's text into `out`, with at most `allowance` stores. In the field every allowance is UINT64_MAX.
 uint32_t nv_read(const uint8_t *keys, uint64_t keys_len, uint8_t *control, uint64_t control_len, uint8_t *array,
@@ -160,7 +168,7 @@ static inline const char *nv_word(uint32_t code)
     case NV_CUT:
         return "cut";
     case NV_REFUSED + NV_BAD_DEPTH:
-        return "the depth is not 1, 2 or 3";
+        return "the depth is not 1, 2 or 3, or the family is none";
     case NV_REFUSED + NV_BAD_KEYS_LENGTH:
         return "the keys have a wrong length";
     case NV_REFUSED + NV_BAD_CONTROL_LENGTH:
@@ -197,6 +205,10 @@ static inline const char *nv_word(uint32_t code)
         return "the page was turned 2^64 - 1 times";
     case NV_REFUSED + NV_BAD_COUNTER:
         return "the line's phase would bring its counter past 127";
+    case NV_REFUSED + NV_NO_COUNTER:
+        return "the line's data cell fits no counter";
+    case NV_REFUSED + NV_SEVERAL_COUNTERS:
+        return "the line's data cell fits several counters";
     default:
         return "no code of this library";
     }

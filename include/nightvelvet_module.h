@@ -14,8 +14,8 @@
 extern "C" {
 #endif
 
-// A module: the caller's buffers, with the lengths of its depth. Later requests have calls be told its family and its serial
-// number: these will be members too, and the forms below keep their arguments.
+// A module: the caller's buffers, with the lengths of its depth. A later request has calls be told a serial number: that will
+// be a member too, and the forms below keep their arguments.
 typedef struct nv_module {
     uint64_t depth;
     const uint8_t *keys; // NV_KEYS_LENGTH bytes
@@ -81,11 +81,12 @@ static inline nv_answer nv_answer_of(uint32_t code, const uint8_t *numbers, int 
     return a;
 }
 
-static inline nv_answer nv_module_format(const nv_module *m)
+// The family is NV_FAMILY_PHASE or NV_FAMILY_TAG; the other forms find it in the control record.
+static inline nv_answer nv_module_format(const nv_module *m, uint64_t family)
 {
     uint8_t numbers[NV_NUMBERS_LENGTH];
-    uint32_t code = nv_format(m->depth, m->keys, NV_KEYS_LENGTH, m->control, NV_CONTROL_LENGTH, m->array, m->array_len,
-                              m->cache, m->cache_len, numbers, sizeof numbers);
+    uint32_t code = nv_format(m->depth, family, m->keys, NV_KEYS_LENGTH, m->control, NV_CONTROL_LENGTH, m->array,
+                              m->array_len, m->cache, m->cache_len, numbers, sizeof numbers);
     return nv_answer_of(code, numbers, 0);
 }
 

@@ -76,10 +76,11 @@ static int as_wanted(enum call call)
 int main(void)
 {
     int passed = 0, failed = 0;
-    for (unsigned depth = 1; depth <= 3; depth++) {
-        m = make_module(&ours, depth, malloc);
+    for (unsigned k = 0; k < 3 * FAMILIES; k++) {
+        m = make_module(&ours, 1 + k % 3, k / 3, malloc);
         for (int s = 0; s < SCENARIOS; s++)
             watch_cuts(s);
+        free_module(&m);
     }
     for (int call = 0; call < CALL_KINDS; call++) {
         printf("copies: %s: memcpy and memset called %ld times, %ld times to array or control record%s\n", call_names[call],

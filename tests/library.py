@@ -12,14 +12,14 @@ from concurrent.futures import ProcessPoolExecutor
 import model
 
 SEQUENCES = {
-    "format": ("depth", "keys", "control", "array", "cache", "numbers"),
+    "format": ("depth", "family", "keys", "control", "array", "cache", "numbers"),
     "read": ("keys", "control", "array", "cache", "line", "out", "allowance", "numbers"),
     "write": ("keys", "control", "array", "cache", "line", "text", "allowance", "numbers"),
     "turn": ("keys", "control", "array", "cache", "page", "allowance", "numbers"),
     "recover": ("keys", "control", "array", "cache", "allowance", "numbers"),
     "dirty_pages": ("control", "cache", "list", "numbers"),
 }
-COUNTS = ("depth", "line", "page", "allowance")
+COUNTS = ("depth", "family", "line", "page", "allowance")
 SLICES = {name: tuple(part for part in parts if part not in COUNTS) for name, parts in SEQUENCES.items()}
 
 DONE, BLANK, CUT, REFUSED = 0, 1, 2, 100
@@ -173,6 +173,9 @@ class Session:
         code = self.functions[name](*passed)
         return (code,) + tuple(model.number_at(self.get("numbers"), at) for at in (0, 8, 16))
 
+    def format(self, family=0):
+        return self.make("format", depth=self.depth, family=family)
+
     def read(self, line, allowance=model.UNLIMITED):
         return self.make("read", line=line, allowance=allowance)
 
@@ -189,8 +192,8 @@ class Session:
 
 # ---- The same calls by the model ----
 
-def by_model_format(depth, keys, control, array, cache, numbers):
-    answer, module = model.format_call(keys, depth, model.Module(array, control, cache))
+def by_model_format(depth, family, keys, control, array, cache, numbers):
+    answer, module = model.format_call(keys, depth, family, model.Module(array, control, cache))
     return answer, (keys, module.control, module.array, module.cache)
 
 

@@ -1,7 +1,7 @@
 """Reference model of the encrypted memory module and its recovery.
 
 Each call is a pure function: it takes immutable bytes and gives new ones.
-Lines, pages, depths and allowances are unsigned 64-bit numbers.
+Lines, pages, depths, families and allowances are unsigned 64-bit numbers.
 """
 
 import re
@@ -30,9 +30,11 @@ COUNTER_SLOTS = 4
 LIST_LENGTH = 32
 BLANK_TEXT = b"\xff" * CONTENT
 
-# The control record.
+# The control record. Its mark tells the family: with a phase byte in the side
+# bytes of a data cell, or without.
 CONTROL_LENGTH = 681
-MARK = b"PIGK"
+PHASE_FAMILY, TAG_FAMILY = FAMILIES = (0, 1)
+MARKS = (b"PIGK", b"PIGN")
 DEPTH_AT = 5
 ROOT_AT = 7
 COUNT_AT = 15
@@ -49,6 +51,18 @@ PHASE_MAX = 3
 MINOR_MAX = 127
 MAJOR_MAX = MASK64
 STOP_LOSS = 4
+
+# How many of the lowest bits a data tag of the family without a phase byte
+# keeps, the others being zero. It is 64 in the paper. With few of them two
+# tags agree often enough for a test.
+TAG_BITS = 64
+
+
+def set_tag_bits(bits):
+    global TAG_BITS
+    TAG_BITS = bits
+    fitting_minors.cache_clear()
+    forwarded_block.cache_clear()
 
 
 def number8(value):
@@ -228,11 +242,14 @@ def node_tag(keys, content, level, index):
     return number8(siphash_2_4(keys[32:48], message))
 
 
-def data_side(keys, content, line, major, minor):
-    """The side bytes of a written data cell: phase, then data tag."""
+def data_side(keys, family, content, line, major, minor):
+    """The side bytes of a written data cell: the phase, then seven bytes of
+    the hash; or without a phase the whole hash."""
     message = content + number8(line) + number8(major) + number8(minor)
-    tag = number8(siphash_2_4(keys[32:48], message))[:7]
-    return bytes([minor % 4]) + tag
+    tag = siphash_2_4(keys[32:48], message)
+    if family == TAG_FAMILY:
+        return number8(tag % 2**TAG_BITS)
+    return bytes([minor % 4]) + number8(tag)[:7]
 
 
 def node_over(keys, child_level, first_index, children):
@@ -253,6 +270,62 @@ def forward_fault(minor, phase):
     if brought_forward(minor, phase) > MINOR_MAX:
         return 32
     return None
+
+
+def candidates(stored):
+    """The minors that a stored one may stand for where there is no phase."""
+    return range(stored, min(stored + STOP_LOSS - 1, MINOR_MAX) + 1)
+
+
+def fits(keys, cell, line, major, minor):
+    """Whether a data cell without a phase is that of a minor."""
+    if minor == 0:
+        return cell == bytes(CELL)
+    return cell[CONTENT:] == data_side(keys, TAG_FAMILY, cell[:CONTENT], line,
+                                       major, minor)
+
+
+def fitting(keys, cell, line, major, stored):
+    """The candidates that fit a data cell without a phase."""
+    return [minor for minor in candidates(stored)
+            if fits(keys, cell, line, major, minor)]
+
+
+@lru_cache(maxsize=1 << 12)
+def fitting_minors(keys, page, block, cells):
+    """The candidates that fit each data cell of a page, without phases."""
+    return [fitting(keys, cell_at(cells, place), 64 * page + place,
+                    major_of(block), stored)
+            for place, stored in enumerate(minors_of(block))]
+
+
+def choice(found):
+    """Of the candidates that fit: (refusal or None, the minor)."""
+    if len(found) == 1:
+        return None, found[0]
+    return (34 if found else 33), None
+
+
+def by_phase(stored, phase):
+    """What a phase makes of a stored minor: (refusal or None, the minor)."""
+    return forward_fault(stored, phase), brought_forward(stored, phase)
+
+
+@lru_cache(maxsize=1 << 12)
+def forwarded_block(keys, family, page, block, cells):
+    """A page's counter block with its minors brought forward by the page's
+    data cells: (None, the block), or ((refusal, line), None) of the first
+    line that fails."""
+    if family == TAG_FAMILY:
+        outcomes = map(choice, fitting_minors(keys, page, block, cells))
+    else:
+        outcomes = map(by_phase, minors_of(block), cells[CONTENT::CELL])
+    minors = []
+    for line, (number, minor) in enumerate(outcomes, 64 * page):
+        if number is not None:
+            return (number, line), None
+        minors.append(minor)
+    return None, counter_block(major_of(block), minors)
 
 
 # ---- Cache ----
@@ -348,6 +421,8 @@ def stores_of_pending(control):
 
 
 def apply_stores(stores, array, control):
+    if not stores:
+        return array, control
     memory = {"array": bytearray(array), "control": bytearray(control)}
     for target, pieces in stores:
         for offset, data in pieces:
@@ -381,8 +456,12 @@ def root_of(control):
     return control[ROOT_AT:ROOT_AT + 8]
 
 
+def family_of(control):
+    return MARKS.index(control[:4])
+
+
 def control_valid(control):
-    if control[:4] != MARK or control[4] != 1 or control[6] != 1:
+    if control[:4] not in MARKS or control[4] != 1 or control[6] != 1:
         return False
     if depth_of(control) not in (1, 2, 3) or control[COUNT_AT] > QUEUE_PLACES:
         return False
@@ -510,8 +589,8 @@ def make_stores(stores, allowance, module, cache):
 
 # ---- The calls ----
 
-def format_call(keys, depth, module):
-    if depth not in (1, 2, 3):
+def format_call(keys, depth, family, module):
+    if depth not in (1, 2, 3) or family not in FAMILIES:
         return refused(1), module
     if len(keys) != KEYS_LENGTH:
         return refused(2), module
@@ -528,7 +607,7 @@ def format_call(keys, depth, module):
             offset = CELL * node_cell(depth, level, index)
             array[offset:offset + CONTENT] = content
     root = node_tag(keys, tree[depth][0], depth, 0)
-    control = MARK + bytes([1, depth, 1]) + root
+    control = MARKS[family] + bytes([1, depth, 1]) + root
     control += bytes(CONTROL_LENGTH - len(control))
     return done(), Module(bytes(array), control, bytes(cache_length(depth)))
 
@@ -555,7 +634,7 @@ def read_call(keys, line, allowance, output, module):
     major, minor = major_of(block), minors_of(block)[place]
     text = BLANK_TEXT
     if minor != 0:
-        text = text_at(keys, module.array, line, major, minor)
+        text = text_at(keys, module, line, major, minor)
         if text is None:
             return refused(25, line), module, output
     stores = stores_of_batch(batch, root_of(module.control))
@@ -567,18 +646,19 @@ def read_call(keys, line, allowance, output, module):
     return answer, module, text
 
 
-def text_at(keys, array, line, major, minor):
-    """The text of a line, or None if its cell's phase or tag differs."""
-    cell = cell_at(array, line)
+def text_at(keys, module, line, major, minor):
+    """The text of a line, or None if its cell's side bytes differ."""
+    cell = cell_at(module.array, line)
     content, side = cell[:CONTENT], cell[CONTENT:]
-    if side != data_side(keys, content, line, major, minor):
+    family = family_of(module.control)
+    if side != data_side(keys, family, content, line, major, minor):
         return None
     return xor(content, pad(keys, line, major, minor))
 
 
-def data_cell(keys, text, line, major, minor):
+def data_cell(keys, family, text, line, major, minor):
     content = xor(text, pad(keys, line, major, minor))
-    return content + data_side(keys, content, line, major, minor)
+    return content + data_side(keys, family, content, line, major, minor)
 
 
 def renew_path(keys, h, page, found, content):
@@ -601,7 +681,7 @@ def write_call(keys, line, text, allowance, module):
     refusal = line_refusal(keys, line, text, module)
     if refusal is not None:
         return refusal, module
-    h = depth_of(module.control)
+    h, family = depth_of(module.control), family_of(module.control)
     page, place = divmod(line, 64)
     refusal, found, batch = load_path(keys, page, module)
     if refusal is not None:
@@ -617,7 +697,7 @@ def write_call(keys, line, text, allowance, module):
     if minor % STOP_LOSS == 0:
         batch.append((node_cell(h, 0, page), content + bytes(SIDE)))
         found[slot_of(0, page)] = Slot(page + 1, 0, content)
-    batch.append((line, data_cell(keys, text, line, major, minor)))
+    batch.append((line, data_cell(keys, family, text, line, major, minor)))
     stores = stores_of_batch(batch, root)
     ended, module = make_stores(stores, allowance, module,
                                 cache_of_slots(found))
@@ -641,7 +721,7 @@ def turn_stores(keys, page, module):
     refusal = turn_refusal(keys, page, module)
     if refusal is not None:
         return refusal, None, None
-    h = depth_of(module.control)
+    h, family = depth_of(module.control), family_of(module.control)
     refusal, found, path = load_path(keys, page, module)
     if refusal is not None:
         return refusal, None, None
@@ -655,10 +735,11 @@ def turn_stores(keys, page, module):
         line, minor = 64 * page + place, minors[place]
         text = None
         if minor != 0:
-            text = text_at(keys, module.array, line, major, minor)
+            text = text_at(keys, module, line, major, minor)
         if text is None:
             return refused(25, line), None, None
-        turned.append((line, data_cell(keys, text, line, major + 1, 1)))
+        turned.append((line, data_cell(keys, family, text, line, major + 1,
+                                       1)))
     new_block = counter_block(major + 1, [min(minor, 1) for minor in minors])
     new_root = renew_path(keys, h, page, found, new_block)
     found[slot_of(0, page)] = Slot(page + 1, 0, new_block)
@@ -700,16 +781,14 @@ def recover_call(keys, allowance, module):
     if ended is not None:
         return ended, module
 
-    owners = [number_at(cell_at(module.array, shadow_cell(h, slot)), 0)
-              for slot in range(slots(h))]
+    owners = shadow_owners(h, module.array)
     fault = owners_fault(h, owners)
     if fault is not None:
         return refused(27, fault, stores=len(stores)), module
-    opened = open_page(module.control)
-    fault = lines_fault(h, module.array, owners, opened)
+    fault, blocks, total = rebuilt_blocks(keys, module, owners)
     if fault is not None:
         return refused(*fault, stores=len(stores)), module
-    found, total = rebuilt_slots(keys, h, module.array, owners, opened)
+    found = rebuilt_slots(keys, h, module.array, owners, blocks)
     top = node_of(h, module.array, found, h, 0)
     if node_tag(keys, top, h, 0) != root_of(module.control):
         return refused(29, stores=len(stores)), module
@@ -717,51 +796,54 @@ def recover_call(keys, allowance, module):
             module._replace(cache=cache_of_slots(found)))
 
 
-def lines_fault(h, array, owners, opened):
-    """The refusal of the first line whose minor cannot be brought forward,
-    by slot and then by line, with that line; or None. An open page's lines
-    are not read."""
+def shadow_owners(h, array):
+    return [number_at(cell_at(array, shadow_cell(h, slot)), 0)
+            for slot in range(slots(h))]
+
+
+def page_cells(array, page):
+    """The data cells of a page."""
+    return array[CELL * 64 * page:CELL * 64 * (page + 1)]
+
+
+def rebuilt_blocks(keys, module, owners):
+    """The counter block of each listed page, and the sum by which minors were
+    brought forward: (None, blocks, sum). Or the refusal of the first line
+    that fails, by slot and then by line: ((refusal, line), None, None). An
+    open page's block is the array's, and its data cells are not read."""
+    h, family = depth_of(module.control), family_of(module.control)
+    blocks, total = {}, 0
     for owner in owners[:COUNTER_SLOTS]:
-        if owner == 0 or owner - 1 == opened:
+        page = owner - 1
+        if owner == 0:
             continue
-        for line, minor, phase in stored_lines(h, array, owner - 1):
-            number = forward_fault(minor, phase)
-            if number is not None:
-                return number, line
-    return None
+        stored = array_node(h, module.array, 0, page)
+        blocks[page] = stored
+        if page != open_page(module.control):
+            fault, blocks[page] = forwarded_block(
+                keys, family, page, stored, page_cells(module.array, page))
+            if fault is not None:
+                return fault, None, None
+        total += sum(minors_of(blocks[page])) - sum(minors_of(stored))
+    return None, blocks, total
 
 
-def rebuilt_slots(keys, h, array, owners, opened):
-    """The slots of the given owners, each level from the one below, and the
-    sum by which minors were brought forward. An open page's block is the
-    array's."""
+def rebuilt_slots(keys, h, array, owners, blocks):
+    """The slots of the given owners: these blocks, and over them the nodes,
+    each level from the one below."""
     found = [EMPTY_SLOT] * slots(h)
-    total = 0
     for slot, owner in enumerate(owners):
         if owner == 0:
             continue
         level, index = level_of_slot(slot), owner - 1
-        if level == 0 and index == opened:
-            content = array_node(h, array, 0, index)
-        elif level == 0:
-            minors = [brought_forward(minor, phase)
-                      for _, minor, phase in stored_lines(h, array, index)]
-            block = array_node(h, array, 0, index)
-            content = counter_block(major_of(block), minors)
-            total += sum(minors) - sum(minors_of(block))
+        if level == 0:
+            content = blocks[index]
         else:
             children = [node_of(h, array, found, level - 1, 8 * index + i)
                         for i in range(8)]
             content = node_over(keys, level - 1, 8 * index, children)
         found[slot] = Slot(owner, 1, content)
-    return found, total
-
-
-def stored_lines(h, array, page):
-    """Line, stored minor and phase of each line of a page."""
-    minors = minors_of(array_node(h, array, 0, page))
-    return [(line, minor, cell_at(array, line)[CONTENT])
-            for line, minor in enumerate(minors, 64 * page)]
+    return found
 
 
 def node_of(h, array, found, level, index):
@@ -868,7 +950,7 @@ def answer_text(command, numbers, answer, value):
 def bench(lines_of_text, run=run_command):
     """What the program prints; run makes the calls."""
     keys = bytes(range(KEYS_LENGTH))
-    _, module = format_call(keys, 1, zero_module(1))
+    _, module = format_call(keys, 1, PHASE_FAMILY, zero_module(1))
     allowance = UNLIMITED
     printed = []
     for text in lines_of_text:
@@ -913,11 +995,12 @@ class History:
 
     # How many parts follow each event's name.
     SHAPES = {"read": 4, "write": 4, "turn": 3, "recover": 2, "list": 1,
-              "format": 2, "power_cut": 1}
+              "format": 3, "power_cut": 1}
 
-    def __init__(self, keys, depth):
+    def __init__(self, keys, depth, family=PHASE_FAMILY):
         allow(depth in (1, 2, 3), "depth")
-        answer, self.module = format_call(keys, depth, zero_module(depth))
+        answer, self.module = format_call(keys, depth, family,
+                                          zero_module(depth))
         allow(answer.kind == "done", "format not done")
         self.keys = keys
         self.depth = depth
@@ -954,8 +1037,8 @@ class History:
         if not same_keys:
             allow(answer.kind == "refused" and answer.stores == 0,
                   "other keys in a call that is not refused without stores")
-        if kind == "recover" and same_keys:
-            claim(answer.kind != "refused", "recovery refused")
+        if kind == "recover" and same_keys and answer.kind == "refused":
+            self.claim_in_doubt(answer, module)
         if kind == "write":
             self.note_write(answer, *rest)
         if kind == "turn" and answer.kind != "refused":
@@ -968,6 +1051,15 @@ class History:
             self.after_cut = False
             self.check_recovered(answer.first)
         return answer, output
+
+    def claim_in_doubt(self, answer, module):
+        """The one refusal of a recovery that the rule leaves open, and what
+        it leaves."""
+        claim(answer.number == 34 and lines_in_doubt(
+            self.keys, self.module, self.counts), "recovery refused")
+        left = apply_stores(stores_of_pending(self.module.control),
+                            self.module.array, self.module.control)
+        claim(module == (*left, self.module.cache), "left by a refusal as 34")
 
     def power_cut(self, cache):
         allow(len(cache) == cache_length(self.depth), "cache length")
@@ -997,9 +1089,9 @@ class History:
                                          self.module.cache)
         return answer, self.module, output
 
-    def run_format(self, keys, depth):
-        allow(is_number64(depth), "number")
-        return format_call(keys, depth, self.module) + (None,)
+    def run_format(self, keys, depth, family):
+        allow(is_number64(depth) and is_number64(family), "number")
+        return format_call(keys, depth, family, self.module) + (None,)
 
     def note_write(self, answer, keys, line, text, allowance):
         if answer.kind == "cut":
@@ -1116,9 +1208,31 @@ def batches_committed(batches, stores):
     return committed
 
 
-def run_history(keys, depth, events):
+def lines_in_doubt(keys, module, counts):
+    """The lines that a recovery with the module's keys goes through and whose
+    cell, as the pending stores leave it, fits a candidate other than the
+    line's count: none, where the rule says that the recovery is not
+    refused."""
+    if family_of(module.control) != TAG_FAMILY:
+        return []
+    h = depth_of(module.control)
+    array, control = apply_stores(stores_of_pending(module.control),
+                                  module.array, module.control)
+    found = []
+    for owner in shadow_owners(h, array)[:COUNTER_SLOTS]:
+        page = owner - 1
+        if owner == 0 or page == open_page(control):
+            continue
+        fit = fitting_minors(keys, page, array_node(h, array, 0, page),
+                             page_cells(array, page))
+        found += [line for line, minors in enumerate(fit, 64 * page)
+                  if set(minors) - {counts.get(line, 0)}]
+    return found
+
+
+def run_history(keys, depth, events, family=PHASE_FAMILY):
     """Run a list of events; gives the History at its end."""
-    history = History(keys, depth)
+    history = History(keys, depth, family)
     for event in events:
         history.step(event)
     return history

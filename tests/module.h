@@ -23,7 +23,7 @@ typedef struct {
 
 typedef struct {
     const calls *by;
-    unsigned depth;
+    unsigned depth, family;
     uint64_t lines;
     size_t array_len, cache_len;
     uint8_t *control, *array, *cache, *out, *text, *list, *numbers;
@@ -34,18 +34,19 @@ static const uint8_t keys[NV_KEYS_LENGTH] = {
     24, 25, 26, 27, 28, 29, 30, 31, 32, 33, 34, 35, 36, 37, 38, 39, 40, 41, 42, 43, 44, 45, 46, 47,
 };
 
-static inline module sizes_of(const calls *by, unsigned depth)
+static inline module sizes_of(const calls *by, unsigned depth, unsigned family)
 {
     static const size_t arrays[] = { 0, NV_ARRAY_LENGTH_1, NV_ARRAY_LENGTH_2, NV_ARRAY_LENGTH_3 };
     static const size_t caches[] = { 0, NV_CACHE_LENGTH_1, NV_CACHE_LENGTH_2, NV_CACHE_LENGTH_3 };
     static const uint64_t lines[] = { 0, NV_LINES_1, NV_LINES_2, NV_LINES_3 };
-    return (module){ .by = by, .depth = depth, .lines = lines[depth], .array_len = arrays[depth], .cache_len = caches[depth] };
+    return (module){ .by = by, .depth = depth, .family = family, .lines = lines[depth], .array_len = arrays[depth],
+                     .cache_len = caches[depth] };
 }
 
 // Gives a module buffers from `get`.
-static inline module make_module(const calls *by, unsigned depth, void *(*get)(size_t))
+static inline module make_module(const calls *by, unsigned depth, unsigned family, void *(*get)(size_t))
 {
-    module m = sizes_of(by, depth);
+    module m = sizes_of(by, depth, family);
     m.control = get(NV_CONTROL_LENGTH);
     m.array = get(m.array_len);
     m.cache = get(m.cache_len);
@@ -54,6 +55,11 @@ static inline module make_module(const calls *by, unsigned depth, void *(*get)(s
     m.list = get(NV_LIST_LENGTH);
     m.numbers = get(NV_NUMBERS_LENGTH);
     return m;
+}
+
+static inline void free_module(const module *m)
+{
+    free(m->control), free(m->array), free(m->cache), free(m->out), free(m->text), free(m->list), free(m->numbers);
 }
 
 static inline void copy_module(const module *to, const module *from)
@@ -70,8 +76,8 @@ static inline uint64_t number_at(const module *m, uint64_t at)
 
 static inline uint32_t call_format(const module *m)
 {
-    return m->by->format(m->depth, keys, sizeof keys, m->control, NV_CONTROL_LENGTH, m->array, m->array_len, m->cache, m->cache_len,
-                         m->numbers, NV_NUMBERS_LENGTH);
+    return m->by->format(m->depth, m->family, keys, sizeof keys, m->control, NV_CONTROL_LENGTH, m->array, m->array_len, m->cache,
+                         m->cache_len, m->numbers, NV_NUMBERS_LENGTH);
 }
 
 static inline uint32_t call_read(const module *m, uint64_t line, uint64_t allowance)
@@ -129,7 +135,7 @@ static const enum call scenario_calls[SCENARIOS] = {
     TURN, TURN, TURN, RECOVER,
 };
 
-enum { NEAR = 5 };
+enum { NEAR = 5, FAMILIES = 2 };
 
 // A line whose path needs the slots that the path of NEAR has, below the top.
 static inline uint64_t far_line(unsigned depth)

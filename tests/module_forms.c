@@ -7,7 +7,7 @@
 #define UNLIMITED UINT64_MAX
 
 enum { FORMAT, READ, WRITE, TURN, RECOVER, DIRTY_PAGES, KINDS };
-enum { CELL = 72, SLOT = 73, ROOT_AT = 7, COUNT_AT = 15, PHASE_AT = 64 };
+enum { CELL = 72, SLOT = 73, ROOT_AT = 7, COUNT_AT = 15, SIDE_AT = 64 };
 
 static const char *const kind_names[KINDS] = { "format", "read", "write", "turn", "recover", "dirty_pages" };
 static const uint64_t lines_of[4] = { 0, 512, 4096, 32768 };
@@ -29,12 +29,13 @@ static void check(int holds, const char *what, uint64_t depth)
         printf("module_forms: FAILED: %s at depth %u\n", what, (unsigned)depth);
 }
 
+// The number is a line, a page or a family, as the call takes one.
 static uint32_t make_plain(buffers *b, int kind, uint64_t depth, uint64_t number, uint64_t allowance, uint8_t *numbers)
 {
     uint64_t array = depth < 4 ? array_lens[depth] : 0, cache = depth < 4 ? cache_lens[depth] : 0;
     switch (kind) {
     case FORMAT:
-        return nv_format(depth, b->keys, 48, b->control, 681, b->array, array, b->cache, cache, numbers, 24);
+        return nv_format(depth, number, b->keys, 48, b->control, 681, b->array, array, b->cache, cache, numbers, 24);
     case READ:
         return nv_read(b->keys, 48, b->control, 681, b->array, array, b->cache, cache, number, b->text, 64, allowance, numbers, 24);
     case WRITE:
@@ -53,7 +54,7 @@ static nv_answer make_form(buffers *b, int kind, uint64_t depth, uint64_t number
     nv_module m = nv_module_of(depth, b->keys, b->control, b->array, b->cache);
     switch (kind) {
     case FORMAT:
-        return nv_module_format(&m);
+        return nv_module_format(&m, number);
     case READ:
         return nv_module_read(&m, number, b->text, allowance);
     case WRITE:
@@ -99,20 +100,20 @@ static void build(int kind, uint64_t depth, uint64_t number, uint64_t allowance,
 }
 
 // An empty module with lines 0 and 1 written, the first three times.
-static void build_module(uint64_t depth)
+static void build_module(uint64_t depth, uint64_t family)
 {
     memset(&start, 0x5a, sizeof start);
-    build(FORMAT, depth, 0, 0, NV_DONE);
+    build(FORMAT, depth, family, 0, NV_DONE);
     for (int i = 0; i < 4; i++)
         build(WRITE, depth, i == 3, UNLIMITED, NV_DONE);
     memset(start.text, 0x3c, sizeof start.text);
 }
 
-static void without_refusals(uint64_t depth)
+static void without_refusals(uint64_t depth, uint64_t family)
 {
     memset(&start, 0xc3, sizeof start);
-    compare(FORMAT, depth, 0, 0, NV_DONE, 0, 0);
-    build_module(depth);
+    compare(FORMAT, depth, family, 0, NV_DONE, 0, 0);
+    build_module(depth, family);
     compare(READ, depth, 0, 0, NV_DONE, 0, 0);
     compare(READ, depth, 2, 0, NV_BLANK, 0, 0);
     compare(READ, depth, lines_of[depth] - 1, 4, NV_CUT, 0, 0);
@@ -130,10 +131,13 @@ static void without_refusals(uint64_t depth)
     compare(RECOVER, depth, 0, 4, NV_DONE, 0, 0);
 }
 
-static void refusals(uint64_t depth)
+static void refusals(uint64_t depth, uint64_t family)
 {
     uint64_t lines = lines_of[depth];
-    build_module(depth);
+    uint32_t hurt = NV_REFUSED + (family == NV_FAMILY_PHASE ? NV_BAD_PHASE : NV_NO_COUNTER);
+    compare(FORMAT, depth, 2, 0, NV_REFUSED + NV_BAD_DEPTH, 0, 0);
+    compare(FORMAT, depth, UNLIMITED, 0, NV_REFUSED + NV_BAD_DEPTH, 0, 0);
+    build_module(depth, family);
     compare(READ, depth, lines, UNLIMITED, NV_REFUSED + NV_BAD_LINE, 0, 0);
     compare(WRITE, depth, UNLIMITED, UNLIMITED, NV_REFUSED + NV_BAD_LINE, 0, 0);
     compare(TURN, depth, lines / 64, UNLIMITED, NV_REFUSED + NV_BAD_LINE, 0, 0);
@@ -143,14 +147,14 @@ static void refusals(uint64_t depth)
     start.array[CELL * (lines + 3)] ^= 1;
     compare(READ, depth, 64 * 3, UNLIMITED, NV_REFUSED + NV_BAD_NODE, 0, 3);
     compare(WRITE, depth, 64 * 3, UNLIMITED, NV_REFUSED + NV_BAD_NODE, 0, 3);
-    start.array[CELL + PHASE_AT] = 4;
+    start.array[CELL + SIDE_AT] = 4;
     build(WRITE, depth, 0, 4, NV_CUT);
     compare(READ, depth, 0, UNLIMITED, NV_REFUSED + NV_PENDING, 0, 0);
-    compare(RECOVER, depth, 0, UNLIMITED, NV_REFUSED + NV_BAD_PHASE, 1, 0);
+    compare(RECOVER, depth, 0, UNLIMITED, hurt, 1, 0);
     check(make_form(&start, RECOVER, depth, 0, UNLIMITED).stores == 4, "stores of a refused recovery", depth);
     start.cache[SLOT + 8] = 2;
     compare(DIRTY_PAGES, depth, 0, 0, NV_REFUSED + NV_BAD_CACHE, 0, 0);
-    build_module(depth);
+    build_module(depth, family);
     for (int i = 3; i < 127; i++)
         build(WRITE, depth, 0, UNLIMITED, NV_DONE);
     compare(WRITE, depth, 0, UNLIMITED, NV_REFUSED + NV_WORN, 0, 0);
@@ -158,9 +162,9 @@ static void refusals(uint64_t depth)
     compare(RECOVER, depth, 0, UNLIMITED, NV_REFUSED + NV_BAD_ROOT, 0, 0);
 }
 
-static void open_pages(uint64_t depth)
+static void open_pages(uint64_t depth, uint64_t family)
 {
-    build_module(depth);
+    build_module(depth, family);
     nv_module m = nv_module_of(depth, start.keys, start.control, start.array, start.cache);
     check(!nv_module_is_open(&m), "no page is open", depth);
     for (int i = 0; i < 2; i++)
@@ -184,9 +188,9 @@ static void sizes(uint64_t depth, uint64_t lines)
 // Of a depth that there is not, every call is refused.
 static void other_depth(uint64_t depth)
 {
-    build_module(1);
+    build_module(1, NV_FAMILY_PHASE);
     sizes(depth, 0);
-    compare(FORMAT, depth, 0, 0, NV_REFUSED + NV_BAD_DEPTH, 0, 0);
+    compare(FORMAT, depth, NV_FAMILY_PHASE, 0, NV_REFUSED + NV_BAD_DEPTH, 0, 0);
     for (int kind = READ; kind <= RECOVER; kind++)
         compare(kind, depth, 0, UNLIMITED, NV_REFUSED + NV_BAD_ARRAY_LENGTH, 0, 0);
     compare(DIRTY_PAGES, depth, 0, 0, NV_REFUSED + NV_BAD_CACHE_LENGTH, 0, 0);
@@ -196,9 +200,11 @@ int main(void)
 {
     for (uint64_t depth = 1; depth <= 3; depth++) {
         sizes(depth, lines_of[depth]);
-        without_refusals(depth);
-        refusals(depth);
-        open_pages(depth);
+        for (uint64_t family = NV_FAMILY_PHASE; family <= NV_FAMILY_TAG; family++) {
+            without_refusals(depth, family);
+            refusals(depth, family);
+            open_pages(depth, family);
+        }
     }
     other_depth(0);
     other_depth(4);

@@ -1,5 +1,5 @@
-// Where each line of each depth is: every line is written, then read in another sequence, and slots, counters and nodes are
-// looked at after each call. Page, place, path and slots are counted up here from line to line; nothing is divided.
+// Where each line of each depth and family is: every line is written, then read in another sequence, and slots, counters and
+// nodes are looked at after each call. Page, place, path and slots are counted up here from line to line; nothing is divided.
 // Then lines and pages past the map, up to the last 64-bit number.
 #include "module.h"
 
@@ -100,7 +100,8 @@ static void write_all(const module *m)
         int fresh = memcmp(cell, empty, CELL) == 0;
         text_of(line, m->text);
         int done = call_write(m, line, UNLIMITED) == NV_DONE;
-        check(fresh && done && cell[64] == 1, "data cell of a write", m->depth, line);
+        int stored = m->family == NV_FAMILY_PHASE ? cell[64] == 1 : nv_number(cell, 64) != 0;
+        check(fresh && done && stored, "data cell of a write", m->depth, line);
         check(in_slots(m, &spots[line]), "slots of a write", m->depth, line);
         check(renewed(m, &spots[line]), "counter and path of a write", m->depth, line);
     }
@@ -133,7 +134,7 @@ static void refuse(const module *m, const module *before, uint64_t number, uint6
 // Numbers at each power of two and around it, alone and above a line of the map, whose low bits are then that line's.
 static void past_map(const module *m)
 {
-    module before = make_module(&ours, m->depth, malloc);
+    module before = make_module(&ours, m->depth, m->family, malloc);
     copy_module(&before, m);
     for (int k = 0; k <= 64; k++) {
         uint64_t power = k < 64 ? (uint64_t)1 << k : 0;
@@ -142,12 +143,14 @@ static void past_map(const module *m)
                 refuse(m, &before, power + low + (uint64_t)by, spots[m->lines - 1].node[0] + 1);
     }
     check(memcmp(m->array, before.array, m->array_len) == 0, "the array after refusals", m->depth, 0);
+    free_module(&before);
 }
 
 int main(void)
 {
-    for (unsigned depth = 1; depth <= 3; depth++) {
-        module m = make_module(&ours, depth, malloc);
+    for (unsigned k = 0; k < 3 * FAMILIES; k++) {
+        unsigned depth = 1 + k % 3;
+        module m = make_module(&ours, depth, k / 3, malloc);
         count_spots(m.lines);
         need(call_format(&m) == NV_DONE);
         note_nodes(&m);
@@ -156,6 +159,7 @@ int main(void)
         past_map(&m);
         check(call_recover(&m, UNLIMITED) == NV_DONE, "recovery", depth, m.lines);
         read_all(&m);
+        free_module(&m);
     }
     printf("places: %ld passed, %ld failed\n", passed, failed);
     return failed != 0;

@@ -19,12 +19,12 @@ typedef struct {
 
 typedef struct {
     int call, place;
-    uint64_t depth, line, allowance;
+    uint64_t depth, family, line, allowance;
     size_t n[PARTS];
 } job;
 
 static const calls both[2] = { CALLS_OF(nv_), CALLS_OF(plain_) };
-static const int rounds[4] = { 0, 60000, 10000, 1000 };
+static const int rounds[4] = { 0, 40000, 7000, 700 }; // of each family
 static uint64_t state;
 static long codes[140];
 static size_t page;
@@ -83,7 +83,7 @@ static uint32_t make(const calls *by, const job *j, const slice *s)
     case LIST:
         return by->dirty_pages(SLICE(CONTROL), SLICE(CACHE), SLICE(BUFFER), SLICE(NUMBERS));
     default:
-        return by->format(j->depth, SLICE(KEYS), SLICE(CONTROL), SLICE(ARRAY), SLICE(CACHE), SLICE(NUMBERS));
+        return by->format(j->depth, j->family, SLICE(KEYS), SLICE(CONTROL), SLICE(ARRAY), SLICE(CACHE), SLICE(NUMBERS));
     }
 }
 
@@ -94,7 +94,8 @@ static job draw_job(const module *m)
     static const size_t lists[] = { [READ] = NV_TEXT_LENGTH, [WRITE] = NV_TEXT_LENGTH, [TURN] = NV_TEXT_LENGTH,
                                     [RECOVER] = NV_TEXT_LENGTH, [LIST] = NV_LIST_LENGTH, [FORMATS] = NV_TEXT_LENGTH };
     static const int kinds[] = { READ, READ, READ, WRITE, WRITE, WRITE, WRITE, TURN, TURN, RECOVER, RECOVER, LIST };
-    job j = { .call = kinds[draw(12)], .place = (int)draw(PLACES), .depth = draw(4) ? m->depth : draw(6), .line = draw(m->lines) };
+    job j = { .call = kinds[draw(12)], .place = (int)draw(PLACES), .depth = draw(4) ? m->depth : draw(6),
+              .family = draw(4) ? m->family : draw(4), .line = draw(m->lines) };
     if (draw(m->depth == 3 ? 300 : 100) == 0)
         j.call = FORMATS;
     if (draw(2))
@@ -117,7 +118,7 @@ static void damage(const module *m)
 {
     uint8_t bit = (uint8_t)(1 << draw(8));
     uint64_t line = 64 * draw(8) + draw(64);
-    switch (draw(9)) {
+    switch (draw(10)) {
     case 0:
         m->control[draw(2) ? draw(24) : draw(NV_CONTROL_LENGTH)] ^= bit;
         break;
@@ -128,7 +129,7 @@ static void damage(const module *m)
         for (size_t i = 0; i < m->cache_len; i++)
             m->cache[i] = (uint8_t)draw(256);
         break;
-    case 3: // a phase
+    case 3: // a phase, or a byte of a tag
         m->array[72 * line + 64] = (uint8_t)draw(6);
         break;
     case 4: // minors that cannot be raised
@@ -140,12 +141,15 @@ static void damage(const module *m)
         m->control[NV_TURN_PAGE_AT] = (uint8_t)draw(12);
         m->control[NV_TURN_PAGE_AT + 8 + draw(8)] = bit;
         break;
-    case 6: // stored minors of 127, which most phases bring past it, and a phase beside them
+    case 6: // stored minors of 127, which most phases bring past it and no tag fits, and a phase beside them
         memset(m->array + 72 * (m->lines + line / 64) + 8 + 7 * draw(8), 0xff, 7);
         m->array[72 * line + 64] = (uint8_t)draw(6);
         break;
     case 7: // a major that cannot be raised
         memset(m->cache + 73 * draw(4) + 9, 0xff, 8);
+        break;
+    case 8: // the mark of the other family
+        m->control[3] ^= 'K' ^ 'N';
         break;
     default:
         m->array[draw(2) ? draw(m->array_len) : 72 * m->lines + draw(m->array_len - 72 * m->lines)] ^= bit;
@@ -179,9 +183,9 @@ static int agree(const module *m, const job *j, int keep)
     return same;
 }
 
-static int walk(unsigned depth)
+static int walk(unsigned depth, unsigned family)
 {
-    module m = make_module(&both[0], depth, malloc), hurt = make_module(&both[0], depth, malloc);
+    module m = make_module(&both[0], depth, family, malloc), hurt = make_module(&both[0], depth, family, malloc);
     int wrong = 0;
     need(call_format(&m) == NV_DONE);
     for (int i = 0; i < rounds[depth]; i++) {
@@ -195,21 +199,23 @@ static int walk(unsigned depth)
         if (m.control[15] != 0 && draw(2) && call_recover(&m, UNLIMITED) != NV_DONE)
             need(call_format(&m) == NV_DONE);
     }
-    free(m.control), free(m.array), free(m.cache), free(m.out), free(m.text), free(m.list), free(m.numbers);
-    free(hurt.control), free(hurt.array), free(hurt.cache), free(hurt.out), free(hurt.text), free(hurt.list), free(hurt.numbers);
+    free_module(&m);
+    free_module(&hurt);
     return wrong;
 }
 
 int main(int count, char **args)
 {
     static const int wanted[] = { 0, 1, 2, 101, 102, 103, 104, 105, 106, 107, 121, 122, 123, 124, 125, 126, 127, 128, 129, 130,
-                                  131, 132 };
+                                  131, 132, 133 };
     int passed = 0, failed = 0;
     state = count > 1 ? strtoull(args[1], NULL, 0) : 20261115;
     build_walls(NV_ARRAY_LENGTH_3 + 1);
-    for (unsigned depth = 1; depth <= 3; depth++) {
-        int wrong = walk(depth);
-        printf("sanitized: depth %u: %d calls, %d in which the library and plain C differ\n", depth, rounds[depth], wrong);
+    for (unsigned k = 0; k < 3 * FAMILIES; k++) {
+        unsigned depth = 1 + k % 3, family = k / 3;
+        int wrong = walk(depth, family);
+        printf("sanitized: depth %u, family %u: %d calls, %d in which the library and plain C differ\n", depth, family,
+               rounds[depth], wrong);
         wrong ? failed++ : passed++;
     }
     for (size_t i = 0; i < sizeof wanted / sizeof *wanted; i++)

@@ -1,9 +1,9 @@
 // How much stack each call uses: the call runs on a painted stack of its own, and what it changed is the high-water mark.
-// Counted from the caller's frame, so the arguments and the return address are in it. The same at every depth, at most 3 KiB.
+// Counted from the caller's frame, so the arguments and the return address are in it. The same at every depth, at most 1.5 KiB.
 #include "module.h"
 #include <ucontext.h>
 
-enum { ROOM = 1 << 16, LEAST = 16, MOST = 3072 };
+enum { ROOM = 1 << 16, LEAST = 16, MOST = 1536 };
 
 static const calls ours = CALLS_OF(nv_);
 static _Alignas(64) uint8_t room[ROOM];
@@ -35,11 +35,11 @@ static size_t run_on(uint8_t paint)
 }
 
 // Two paints, so that a byte that the call leaves as it was painted does not hide. The first call binds symbols.
-static size_t high_water(unsigned depth, enum scenario s)
+static size_t high_water(unsigned depth, unsigned family, enum scenario s)
 {
     static const uint8_t paints[] = { 0xa5, 0xa5, 0x3c };
     size_t most = 0;
-    m = make_module(&ours, depth, malloc);
+    m = make_module(&ours, depth, family, malloc);
     now = s;
     for (int i = 0; i < 3; i++) {
         prepare(&m, s);
@@ -48,7 +48,7 @@ static size_t high_water(unsigned depth, enum scenario s)
         if (i > 0 && used > most)
             most = used;
     }
-    free(m.control), free(m.array), free(m.cache), free(m.out), free(m.text), free(m.list), free(m.numbers);
+    free_module(&m);
     return most;
 }
 
@@ -56,11 +56,14 @@ int main(void)
 {
     int passed = 0, failed = 0;
     size_t most[CALL_KINDS] = { 0 };
-    for (int s = 0; s < SCENARIOS; s++) {
+    for (int k = 0; k < SCENARIOS * FAMILIES; k++) {
+        enum scenario s = k / FAMILIES;
+        unsigned family = k % FAMILIES;
         size_t used[4], *of_call = &most[scenario_calls[s]];
         for (unsigned depth = 1; depth <= 3; depth++)
-            used[depth] = high_water(depth, s);
-        printf("stack: %-24s %5zu %5zu %5zu bytes at depths 1, 2, 3\n", scenario_names[s], used[1], used[2], used[3]);
+            used[depth] = high_water(depth, family, s);
+        printf("stack: %-24s family %u: %5zu %5zu %5zu bytes at depths 1, 2, 3\n", scenario_names[s], family, used[1], used[2],
+               used[3]);
         if (used[1] < LEAST || used[1] > MOST || used[2] != used[1] || used[3] != used[1])
             failed++;
         else

@@ -32,8 +32,8 @@ r 64 blank 5 255""".split("\n")
 
 
 @lru_cache(maxsize=None)
-def formatted(depth, keys=KEYS):
-    return model.format_call(keys, depth, model.zero_module(depth))[1]
+def formatted(depth, family=0, keys=KEYS):
+    return model.format_call(keys, depth, family, model.zero_module(depth))[1]
 
 
 def text_of(byte):
@@ -69,6 +69,25 @@ def block_stored(depth, module, page):
     """The module with a page's counter block in the array as the cache has it."""
     block = model.node_of(depth, module.array, model.slots_of_cache(module.cache), 0, page)
     return module._replace(array=cell_patched(module.array, model.node_cell(depth, 0, page), 0, block))
+
+
+def with_stored_minor(depth, array, line, minor):
+    """The array with another minor of a line in its page's counter block."""
+    cell = model.node_cell(depth, 0, line // 64)
+    block = model.cell_at(array, cell)[:CONTENT]
+    minors = list(model.minors_of(block))
+    minors[line % 64] = minor
+    return cell_patched(array, cell, 0, model.counter_block(model.major_of(block), minors))
+
+
+def resealed(depth, array, line, minor, by=0):
+    """The array, of a module without a phase byte, with a line's cell made that of a minor, its content as it is; under the
+    major of the line's block plus some."""
+    if minor == 0:
+        return cell_patched(array, line, 0, bytes(CELL))
+    major = (model.major_of(model.array_node(depth, array, 0, line // 64)) + by) % 2**64
+    side = model.data_side(KEYS, 1, model.cell_at(array, line)[:CONTENT], line, major, minor)
+    return cell_patched(array, line, CONTENT, side)
 
 
 def drawn_mask(rng):
@@ -107,28 +126,33 @@ def with_bad_control(rng, depth, module):
     return module._replace(control=control)
 
 
+def with_other_mark(rng, depth, module):
+    """The mark of the other family, or one that is none."""
+    return module._replace(control=patched(module.control, 0, rng.choice([*model.MARKS, *model.MARKS, b"PIGM", b"PIGO", b"pigk"])))
+
+
 def with_other_root(rng, depth, module):
     at = rng.randrange(7, 24)
     return module._replace(control=patched(module.control, at, bytes([module.control[at] ^ 1 << rng.randrange(8)])))
 
 
 def with_pending(rng, depth, module):
-    """A pending batch of any cells, some of them bad numbers."""
-    count = rng.randrange(1, 9)
+    """A pending batch of any cells, some of them bad numbers; now and then one that changes nothing."""
+    same = rng.randrange(3) == 0
+    count = 8 if same and rng.randrange(2) else rng.randrange(1, 9)
     queue = b""
     for _ in range(count):
         cell = any_cell(rng, depth)
         if rng.randrange(40) == 0:
             cell = rng.choice([model.cells(depth), 2**63, 2**64 - 1])
-        content = rng.choice([model.cell_at(module.array, min(cell, model.cells(depth) - 1)), rng.randbytes(CELL),
-                              bytes(CELL)])
-        queue += number8(cell) + content
-    root = rng.choice([module.control[7:15], rng.randbytes(8)])
+        now = model.cell_at(module.array, min(cell, model.cells(depth) - 1))
+        queue += number8(cell) + (now if same else rng.choice([now, rng.randbytes(CELL), bytes(CELL)]))
+    root = module.control[7:15] if same else rng.choice([module.control[7:15], rng.randbytes(8)])
     return module._replace(control=patched(module.control, 15, bytes([count]) + root + queue))
 
 
 def with_open_page(rng, depth, module):
-    """A page open, mostly one that a slot has and whose block is in the array; its phases may be anything."""
+    """A page open, mostly one that a slot has and whose block is in the array; its side bytes may be anything."""
     slots = model.slots_of_cache(module.cache)[:4]
     page = rng.choice([slot.owner - 1 for slot in slots if 0 < slot.owner <= model.pages(depth)] or [0])
     if rng.randrange(4) == 0:
@@ -196,36 +220,49 @@ def drawn_listed(rng, depth, module):
     return page if 0 <= page < model.pages(depth) else rng.randrange(model.pages(depth))
 
 
-def with_other_phase(rng, depth, module):
-    """Another phase on some line, mostly of a page that the shadow lists."""
+def has_phases(module):
+    return module.control[:4] != model.MARKS[1]
+
+
+def with_other_side(rng, depth, module):
+    """Another phase on some line, mostly of a page that the shadow lists; without phases the tag of a minor from one below the
+    stored one to five above it, or of another major, or a zero cell."""
     line = 64 * drawn_listed(rng, depth, module) + rng.randrange(64)
-    phase = rng.choice([0, 1, 2, 3, 4, 255])
-    return module._replace(array=cell_patched(module.array, line, CONTENT, bytes([phase])))
+    if has_phases(module):
+        phase = rng.choice([0, 1, 2, 3, 4, 255])
+        return module._replace(array=cell_patched(module.array, line, CONTENT, bytes([phase])))
+    stored = model.minors_of(model.array_node(depth, module.array, 0, line // 64))[line % 64]
+    minor = rng.choice([0, max(stored - 1, 0), *range(stored, stored + 6)])
+    return module._replace(array=resealed(depth, module.array, line, minor, rng.choice([0, 0, 0, 1, -1])))
 
 
 def with_high_minors(rng, depth, module):
-    """High stored minors and any phases on some lines of a page, mostly one that the shadow lists."""
-    page = drawn_listed(rng, depth, module)
-    block, array = model.array_node(depth, module.array, 0, page), module.array
-    minors = list(model.minors_of(block))
+    """High stored minors and any phases on some lines of a page, mostly one that the shadow lists; without phases the tags of
+    minors up to two past the last."""
+    page, array = drawn_listed(rng, depth, module), module.array
     for place in rng.sample([0, 63, rng.randrange(1, 63)], rng.randrange(1, 4)):
-        minors[place] = rng.choice([124, 125, 126, 127])
-        array = cell_patched(array, 64 * page + place, CONTENT, bytes([rng.choice([0, 1, 2, 3, 3, 4, 5, 254])]))
-    block = model.counter_block(model.major_of(block), minors)
-    return module._replace(array=cell_patched(array, model.node_cell(depth, 0, page), 0, block))
+        line, minor = 64 * page + place, rng.choice([124, 125, 126, 127])
+        array = with_stored_minor(depth, array, line, minor)
+        if has_phases(module):
+            array = cell_patched(array, line, CONTENT, bytes([rng.choice([0, 1, 2, 3, 3, 4, 5, 254])]))
+        else:
+            array = resealed(depth, array, line, rng.choice([minor, *range(minor, 130)]))
+    return module._replace(array=array)
 
 
 def with_worn_line(rng, depth, module):
-    """A slot's counter block gets high minors, without a tag for it."""
-    slot = rng.randrange(4)
-    minors = [rng.choice([0, 3, 123, 126, 127]) for _ in range(64)]
-    block = model.counter_block(rng.choice([0, 0, 2**64 - 1]), minors)
-    return module._replace(cache=patched(module.cache, SLOT_LENGTH * slot + 9, block))
+    """The counter block of a slot or of all gets high minors, without a tag for it."""
+    cache = module.cache
+    for slot in rng.choice([range(4), [rng.randrange(4)]]):
+        minors = [rng.choice([0, 3, 123, 126, 127]) for _ in range(64)]
+        block = model.counter_block(rng.choice([0, 2**64 - 1]), minors)
+        cache = patched(cache, SLOT_LENGTH * slot + 9, block)
+    return module._replace(cache=cache)
 
 
-DAMAGES = (with_bit_in_array, with_bad_control, with_other_root, with_pending, with_open_page, with_bad_section,
-           with_bad_owner, with_other_dirty, with_other_slots, with_any_cache, with_bad_shadow, with_other_phase,
-           with_high_minors, with_worn_line)
+DAMAGES = (with_bit_in_array, with_bad_control, with_other_mark, with_other_root, with_pending, with_open_page,
+           with_bad_section, with_bad_owner, with_other_dirty, with_other_slots, with_any_cache, with_bad_shadow,
+           with_other_side, with_high_minors, with_worn_line, with_worn_line)
 
 
 def damaged(rng, depth, module):
@@ -245,9 +282,10 @@ def drawn_block(rng):
     return model.counter_block(major, minors)
 
 
-def arbitrary(rng, depth, sealed=40):
+def arbitrary(rng, depth, family=0, sealed=40):
     """A module whose tree is sound over any counter blocks, with so many readable lines, and two of the first pages
-    readable whole; the rest is any bytes."""
+    readable whole; phases are those of the minors, or without phases the pages that the shadow lists are readable whole; the
+    rest is any bytes."""
     array = bytearray(rng.randbytes(model.array_length(depth)))
     whole = rng.sample(range(8), 2)
     blocks = [drawn_block(rng) if page in whole or rng.randrange(3) == 0 else bytes(CONTENT)
@@ -257,23 +295,26 @@ def arbitrary(rng, depth, sealed=40):
         for index, content in enumerate(contents):
             at = CELL * model.node_cell(depth, level, index)
             array[at:at + CONTENT] = content
+    listed = []
     for slot in range(model.slots(depth)):
         owner = owner_for(rng, depth, slot) if rng.randrange(3) or slot == model.slot_of(depth, 0) else 0
         at = CELL * model.shadow_cell(depth, slot)
         array[at:at + 8] = number8(owner)
-    for line in range(model.lines(depth)):
+        if owner and slot < model.COUNTER_SLOTS:
+            listed.append(owner - 1)
+    for line in range(model.lines(depth) if family == 0 else 0):
         minor = model.minors_of(blocks[line // 64])[line % 64]
         array[CELL * line + CONTENT] = minor % 4
-    readable = [64 * page + place for page in whole for place in range(64)]
+    readable = [64 * page + place for page in whole + (listed if family else []) for place in range(64)]
     readable += [rng.randrange(model.lines(depth)) for _ in range(sealed)]
     for line in readable:
         block = blocks[line // 64]
         minor = model.minors_of(block)[line % 64]
         content = bytes(array[CELL * line:CELL * line + CONTENT])
-        side = model.data_side(KEYS, content, line, model.major_of(block), minor)
-        array[CELL * line + CONTENT:CELL * line + CELL] = side
+        side = model.data_side(KEYS, family, content, line, model.major_of(block), minor)
+        array[CELL * line:CELL * line + CELL] = content + side if minor or family == 0 else bytes(CELL)
     root = model.node_tag(KEYS, tree[depth][0], depth, 0)
-    control = model.MARK + bytes([1, depth, 1]) + root + bytes([0]) + rng.randbytes(648) + bytes([0]) + rng.randbytes(16)
+    control = model.MARKS[family] + bytes([1, depth, 1]) + root + bytes([0]) + rng.randbytes(648) + bytes([0]) + rng.randbytes(16)
     module = Module(bytes(array), control, bytes(model.cache_length(depth)))
     return module if rng.randrange(3) else opened(module, rng.choice([0] + whole), drawn_mask(rng))
 
@@ -287,8 +328,11 @@ def drawn_line(rng, depth, hot):
 
 
 def drawn_turn(rng, depth, module, hot):
-    """The page of a turn, mostly the open one if there is one, and its allowance."""
+    """The page of a turn, mostly the open one if there is one, or one that a slot has, and its allowance."""
     page = drawn_line(rng, depth, hot) // 64
+    if rng.randrange(2):
+        owner = model.number_at(module.cache, SLOT_LENGTH * rng.randrange(4))
+        page = owner - 1 if 0 < owner <= model.pages(depth) else page
     if len(module.control) == model.CONTROL_LENGTH and module.control[model.TURN_AT] and rng.randrange(4):
         page = model.number_at(module.control, model.TURN_PAGE_AT)
     if rng.randrange(40) == 0:
@@ -320,8 +364,9 @@ def drawn_call(rng, depth, module, hot):
 
 def drawn_format(rng, depth, module):
     wanted = depth if rng.randrange(4) else rng.choice([0, 1, 2, 3, 4, 2**32 + 1, 2**64 - 1])
+    family = rng.choice(model.FAMILIES) if rng.randrange(6) else rng.choice([2, 3, 255, 256, 2**32, 2**32 + 1, 2**64 - 1])
     keys = KEYS if rng.randrange(3) else rng.randbytes(48)
-    return "format", (wanted, keys, module.control, module.array, module.cache, rng.randbytes(24))
+    return "format", (wanted, family, keys, module.control, module.array, module.cache, rng.randbytes(24))
 
 
 def misshapen(rng, arguments):
@@ -337,7 +382,7 @@ def misshapen(rng, arguments):
 # ---- Settled states: a sound tree in the array, nothing cached ----
 
 @lru_cache(maxsize=64)
-def settled(depth, lines=(), major=0):
+def settled(depth, lines=(), major=0, family=0):
     """The module with a zero cache in whose array each (line, minor, text) stands written, all pages at this major."""
     counts = [[0] * 64 for _ in range(model.pages(depth))]
     for line, minor, _ in lines:
@@ -350,6 +395,6 @@ def settled(depth, lines=(), major=0):
             at = CELL * model.node_cell(depth, level, index)
             array[at:at + CONTENT] = content
     for line, minor, text in lines:
-        array[CELL * line:CELL * line + CELL] = model.data_cell(KEYS, text, line, major, minor)
-    root = model.node_tag(KEYS, tree[depth][0], depth, 0)
-    return formatted(depth)._replace(array=bytes(array), control=patched(formatted(depth).control, 7, root))
+        array[CELL * line:CELL * line + CELL] = model.data_cell(KEYS, family, text, line, major, minor)
+    fresh, root = formatted(depth, family), model.node_tag(KEYS, tree[depth][0], depth, 0)
+    return fresh._replace(array=bytes(array), control=patched(fresh.control, 7, root))

@@ -1,4 +1,5 @@
-"""Sentences of the documents about the library that no other test holds, each tried through it, at every depth.
+"""Sentences of the documents about the library that no other test holds, each tried through it, at every depth and in both
+families.
 
 What other keys do; which lines still read after each refusal; that a refused recovery leaves no line to be read; how often
 lines can be written after a turn; what a write without a recovery leads to. That the lines of an open page, and no others, are
@@ -20,18 +21,18 @@ LINES = (0, 1, 70, 130)  # written ones, on pages whose slots differ
 class Memory:
     """A module in the library and the book of what was written to it."""
 
-    def __init__(self, depth, lines=LINES):
+    def __init__(self, depth, family, lines=LINES):
         self.session = Session(Library(), depth, KEYS)
-        self.depth = depth
+        self.depth, self.family = depth, family
         self.tally = Tally("claims")
         self.seen = Counter()
         self.book = Book()
-        self.done(self.session.make("format", depth=depth))
+        self.done(self.session.format(family))
         for line in lines:
             self.write(line)
 
     def done(self, answer):
-        self.tally.check(answer[0] == DONE, "depth %d: a call that is part of a state gave %d" % (self.depth, answer[0]))
+        self.check(answer[0] == DONE, "a call that is part of a state gave %d" % answer[0])
 
     def write(self, line):
         text = text_of(self.book.committed * 7 + line + 3)
@@ -50,7 +51,7 @@ class Memory:
         self.session.load(module._replace(array=states.patched(module.array, at, piece)))
 
     def check(self, holds, what):
-        self.tally.check(holds, "depth %d: %s" % (self.depth, what))
+        self.tally.check(holds, "depth %d, family %d: %s" % (self.depth, self.family, what))
 
     def check_answer(self, what, answer, wanted):
         self.check(answer == wanted, "%s gave %s, not %s" % (what, answer, wanted))
@@ -71,10 +72,10 @@ def with_byte(place):
     return states.patched(KEYS, place, bytes([KEYS[place] ^ 1]))
 
 
-def other_pads(depth):
+def other_pads(depth, family):
     """No call refuses keys with another of the bytes 0 to 31. Reads give other bytes; what is written, and every line of a page
     that is turned, is lost for the right keys; all else stays."""
-    memory = Memory(depth)
+    memory = Memory(depth, family)
     session, book = memory.session, memory.book
     before = session.module()
     for place in range(32):
@@ -97,13 +98,15 @@ def other_pads(depth):
     return memory
 
 
-def other_tags(depth):
+def other_tags(depth, family):
     """Keys with another of the bytes 32 to 47 are refused wherever a tag is checked, and only there: a write to a page in the
-    cache is done, and no recovery after it, with these keys or the right ones."""
-    memory = Memory(depth)
+    cache is done, and no recovery after it, with these keys or the right ones. Without a phase byte recovery checks tags of
+    lines, and the first of a written one is refused."""
+    memory = Memory(depth, family)
     session = memory.session
     before = session.module()
-    calls = (("recover", (129, 0, 0, 0), {}), ("read", (124, 0, 0, 3), {"line": 200}), ("write", (124, 0, 0, 3), {"line": 200}),
+    refused, refused_after = ((129, 0, 0, 0), (129, 0, 0, 0)) if family == 0 else ((133, 0, 0, 0), (133, 0, 1, 0))
+    calls = (("recover", refused, {}), ("read", (124, 0, 0, 3), {"line": 200}), ("write", (124, 0, 0, 3), {"line": 200}),
              ("turn", (124, 0, 0, 3), {"page": 3}), ("read", (125, 0, 70, 0), {"line": 70}),
              ("turn", (125, 0, 70, 0), {"page": 1}), ("read", (BLANK, 0, 0, 0), {"line": 71}))
     for place in range(32, 48):
@@ -114,9 +117,9 @@ def other_tags(depth):
         memory.check(session.module() == before, "a call with another byte %d changed the module" % place)
         memory.check(session.write(1, text_of(1))[0] == DONE, "a write to a cached page with another byte %d" % place)
         memory.lose_power(0)
-        memory.check_answer("the next recovery", session.recover(), (129, 0, 0, 0))
+        memory.check_answer("the next recovery", session.recover(), refused)
         session.put("keys", KEYS)
-        memory.check_answer("the next recovery with right keys", session.recover(), (129, 0, 0, 0))
+        memory.check_answer("the next recovery with right keys", session.recover(), refused_after)
         session.load(before)
     return memory
 
@@ -139,11 +142,12 @@ def listed_in(session, level, index):
     return model.number_at(session.get("cache"), SLOT_LENGTH * model.slot_of(level, index)) == index + 1
 
 
-def damaged_nodes(depth):
+def damaged_nodes(depth, family):
     """124: of a block or node that is not in the cache exactly the lines below it; one that is in the cache is not looked at.
-    After a power failure recovery is refused as 129 if it is a block that the shadow lists (with another major), or if the
-    shadow lists the node above it and not itself; else it is done, and the same lines are refused."""
-    memory = Memory(depth)
+    After a power failure recovery is refused as 129 if it is a block that the shadow lists (with another major; without a phase
+    byte as 133 at its first written line), or if the shadow lists the node above it and not itself; else it is done, and the
+    same lines are refused."""
+    memory = Memory(depth, family)
     session = memory.session
     before = session.module()
     for level, index in nodes_of(depth):
@@ -157,33 +161,35 @@ def damaged_nodes(depth):
             memory.check_answer("a read below node %d, %d" % (level, index), answer, (124, 0, level, index))
         memory.lose_power(0xFF)
         lost = level == 0 if cached else parent
+        first = next((line for line in LINES if cached and family == 1 and line in below(level, index)), None)
         memory.check_answer("recovery after damage to node %d, %d" % (level, index), session.recover(),
-                            (129, 0, 0, 0) if lost else (DONE, 0, len(LINES), 0))
+                            (DONE, 0, len(LINES), 0) if not lost else (129, 0, 0, 0) if first is None else (133, 0, first, 0))
         memory.seen["refused" if lost else "done"] += 1
         if not lost:
             memory.reads("124, after recovery", refused, 124)
     return memory
 
 
-def empty_cache(depth):
+def empty_cache(depth, family):
     """124 with nothing in the cache: exactly the lines below, of the top all. 131: every line reads, a turn is refused."""
-    memory = Memory(depth, ())
+    memory = Memory(depth, family, ())
     texts = {line: text_of(line + 9) for line in LINES}
     memory.book.texts = texts
     lines = tuple((line, 1 + line % 127, text) for line, text in texts.items())
     for level, index in nodes_of(depth):
-        memory.session.load(states.settled(depth, lines))
+        memory.session.load(states.settled(depth, lines, 0, family))
         memory.damage(model.node_cell(depth, level, index), 63)
         memory.reads("124, empty cache", (below(level, index),), 124)
-    memory.session.load(states.settled(depth, lines, 2**64 - 1))
+    memory.session.load(states.settled(depth, lines, 2**64 - 1, family))
     memory.check_answer("a turn of a page whose major is the last", memory.session.turn(1), (131, 0, 0, 0))
     memory.reads("131")
     return memory
 
 
-def damaged_lines(depth):
-    """125: that line alone, whichever byte of its cell is another; a write makes it good. 126: every line reads."""
-    memory = Memory(depth)
+def damaged_lines(depth, family):
+    """125: that line alone, whichever byte of its cell is another; a write makes it good. Without a phase byte each recovery
+    before that write is refused as 133. 126: every line reads."""
+    memory = Memory(depth, family)
     session = memory.session
     before = session.module()
     for line in LINES:
@@ -193,6 +199,8 @@ def damaged_lines(depth):
             memory.reads("125", (range(line, line + 1),), 125)
             memory.check_answer("a read of line %d" % line, session.read(line), (125, 0, line, 0))
             memory.check_answer("a turn of its page", session.turn(line // 64), (125, 0, line, 0))
+            if family == 1:
+                memory.check_answer("a recovery", session.recover(), (133, 0, line, 0))
             kept, memory.book = memory.book, memory.book.copy()
             memory.write(line)
             memory.reads("125, written again")
@@ -209,24 +217,31 @@ def damaged_lines(depth):
 
 # ---- Refused recoveries ----
 
-def damages(depth):
-    """Damage that recovery refuses: code, place, cell, offset, byte. Line 0 is at counter 127, in the array too."""
-    yield 127, 1, model.shadow_cell(depth, 1), 0, 1
-    yield 128, 0, 0, CONTENT, 4
-    yield 129, 0, 70, CONTENT, 2
-    yield 132, 0, 0, CONTENT, 0
+def damages(depth, family):
+    """Damage that recovery refuses: code, place, cell, offset, byte; lines that do not read where the cache is as it was, and their
+    code. Line 0 is at counter 127, in the array too."""
+    block = model.node_cell(depth, 0, 3)  # of a page that the shadow does not list
+    line = range(1), 125
+    yield 127, 1, model.shadow_cell(depth, 1), 0, 1, range(0), 0
+    yield 129, 0, block, 0, 1, below(0, 3), 124
+    if family == 0:
+        yield 128, 0, 0, CONTENT, 4, *line
+        yield 129, 0, 70, CONTENT, 2, range(70, 71), 125
+        yield 132, 0, 0, CONTENT, 0, *line
+    else:
+        yield 133, 0, 0, 0, 0, *line
+        yield 133, 70, 70, CONTENT + 7, 0, range(70, 71), 125
 
 
-def refused_recoveries(depth):
-    """127, 128, 129, 132: the cache stays as it was. With junk in it every read is refused as 123, and with zeros as 124 of the
-    top, once anything was written. Where it is as it was before, lines read but for a damaged one."""
-    memory = Memory(depth, (0,) * 127 + (64 * 4,) + LINES[2:])
+def refused_recoveries(depth, family):
+    """127, 128, 129, 132, 133: the cache stays as it was. With junk in it every read is refused as 123, and with zeros as 124 of
+    the top, once anything was written. Where it is as it was before, lines read but for damaged ones."""
+    memory = Memory(depth, family, (0,) * 127 + (64 * 4,) + LINES[2:])
     session = memory.session
     memory.check(session.read(0)[0] == DONE, "line 0 is in the cache again")
     before, every = session.module(), range(model.lines(depth))
-    for code, place, cell, offset, byte in damages(depth):
-        own = range(cell, cell + 1)
-        for cache, refused, wanted in ((0xFF, every, 123), (0x6B, every, 123), (0, every, 124), (None, own, 125)):
+    for code, place, cell, offset, byte, own, own_code in damages(depth, family):
+        for cache, refused, wanted in ((0xFF, every, 123), (0x6B, every, 123), (0, every, 124), (None, own, own_code)):
             session.load(before)
             memory.damage(cell, offset, bytes([byte]))
             if cache is not None:
@@ -234,21 +249,21 @@ def refused_recoveries(depth):
             kept = session.get("cache")
             memory.check_answer("recovery", session.recover(), (code, 0, place, 0))
             memory.check(session.get("cache") == kept, "a refused recovery changed the cache")
-            memory.reads("%d, cache %s" % (code, cache), () if cache is None and code == 127 else (refused,), wanted)
-            if wanted == 124:
+            memory.reads("%d, cache %s" % (code, cache), (refused,), wanted)
+            if cache == 0:
                 memory.check_answer("a read with a zero cache", session.read(5), (124, 0, depth, 0))
     return memory
 
 
-def nothing_written(depth):
+def nothing_written(depth, family):
     """After a refused recovery of a module that was only read from, a zero cache reads every line as blank."""
-    memory = Memory(depth, ())
+    memory = Memory(depth, family, ())
     session = memory.session
     for line in (0, 70):
         memory.check(session.read(line)[0] == BLANK, "a blank line")
     before = session.module()
-    for code, place, cell, offset, byte in ((127, 1, model.shadow_cell(depth, 1), 0, 1), (128, 70, 70, CONTENT, 4),
-                                            (129, 0, 70, CONTENT, 1)):
+    hurt = ((128, 70, 70, CONTENT, 4), (129, 0, 70, CONTENT, 1)) if family == 0 else ((133, 70, 70, CONTENT, 4),)
+    for code, place, cell, offset, byte in ((127, 1, model.shadow_cell(depth, 1), 0, 1), *hurt):
         session.load(before)
         memory.damage(cell, offset, bytes([byte]))
         memory.lose_power(0)
@@ -257,9 +272,9 @@ def nothing_written(depth):
     return memory
 
 
-def bad_control(depth):
+def bad_control(depth, family):
     """121: no call but format does anything."""
-    memory = Memory(depth)
+    memory = Memory(depth, family)
     session = memory.session
     good = session.module()
     for at in (0, 3, 4, 5, 6, model.COUNT_AT, model.TURN_AT):
@@ -269,17 +284,17 @@ def bad_control(depth):
             numbers = {"line": 0, "page": 0, "allowance": model.UNLIMITED}
             memory.check_answer("%s with a bad control record" % name, session.make(name, **numbers), (121, 0, 0, 0))
         memory.check(session.module() == before, "a call on a bad control record changed the module")
-        memory.check_answer("format", session.make("format", depth=depth), (DONE, 0, 0, 0))
-        memory.check(session.module() == states.formatted(depth), "format leaves a fresh module")
+        memory.check_answer("format", session.format(family), (DONE, 0, 0, 0))
+        memory.check(session.module() == states.formatted(depth, family), "format leaves a fresh module")
     return memory
 
 
 # ---- Counters ----
 
-def writes_after_turn(depth):
+def writes_after_turn(depth, family):
     """However often a line was written before its page was turned, it can be written 126 times after it; one that was never
     written 127 times. The next write is refused, and every line reads."""
-    memory = Memory(depth, (64,) + (65,) * 50 + (66,) * 127)
+    memory = Memory(depth, family, (64,) + (65,) * 50 + (66,) * 127)
     for _ in range(2):
         memory.done(memory.session.turn(1))
         memory.book.finish(1)
@@ -296,15 +311,16 @@ def writes_after_turn(depth):
 
 # ---- No recovery ----
 
-def write_behind(depth):
+def write_behind(depth, family):
     """A cache that is a call behind is accepted, and a write with it. The next recovery is then refused, as 129 after a write
-    that the cache does not have, as 132 after a turn; or, if both writes were of one line, it is done, and both texts have had
-    the same pad."""
-    memory = Memory(depth, (0,) * 127 + (1,) * 4 + (2,) * 3)
+    that the cache does not have, as 132 after a turn, without a phase byte as 133; or, if both writes were of one line, it is
+    done, and both texts have had the same pad."""
+    memory = Memory(depth, family, (0,) * 127 + (1,) * 4 + (2,) * 3)
     session = memory.session
     before = session.module()
     session.put("text", text_of(8))
-    for code, name, numbers in ((129, "write", {"line": 1}), (132, "turn", {"page": 0}), (DONE, "write", {"line": 2})):
+    turned = 132 if family == 0 else 133
+    for code, name, numbers in ((129, "write", {"line": 1}), (turned, "turn", {"page": 0}), (DONE, "write", {"line": 2})):
         session.load(before)
         memory.done(session.make(name, allowance=model.UNLIMITED, **numbers))
         first = model.cell_at(session.get("array"), 2)
@@ -322,8 +338,8 @@ CLAIMS = (other_pads, other_tags, damaged_nodes, empty_cache, damaged_lines, ref
 
 
 def work(job):
-    depth, number = job
-    memory = CLAIMS[number](depth)
+    depth, family, number = job
+    memory = CLAIMS[number](depth, family)
     memory.check(memory.session.guards_hold(), "guard bytes")
     return depth, memory.seen, memory.tally.passed, memory.tally.failed
 
@@ -331,7 +347,8 @@ def work(job):
 def main():
     tally = Tally("claims")
     seen = {depth: Counter() for depth in states.DEPTHS}
-    jobs = [(depth, number) for depth in reversed(states.DEPTHS) for number in range(len(CLAIMS))]
+    jobs = [(depth, family, number) for depth in reversed(states.DEPTHS) for family in model.FAMILIES
+            for number in range(len(CLAIMS))]
     for depth, what, passed, failed in in_parallel(work, jobs):
         seen[depth] += what
         tally.add(passed, failed)

@@ -1,4 +1,5 @@
-"""A cut after every store of a write and of a read with evictions, and recovery from each, cut after every store too.
+"""A cut after every store of a write and of a read with evictions, and recovery from each, cut after every store too, in both
+families.
 
 Each call is held to the model, and what stands after recovery to the book. Then the paper's bench listing.
 """
@@ -9,6 +10,7 @@ from book import Book, commits, faults_after_recovery
 from library import CUT, DONE, Library, NUMBERS, Session, Tally, in_parallel, numbers_of
 from model import UNLIMITED
 from states import KEYS, text_of
+
 
 def book_of(lines):
     book = Book()
@@ -37,12 +39,13 @@ def scenarios(depth):
 
 
 class Cuts:
-    def __init__(self, depth):
-        self.depth = depth
+    def __init__(self, depth, family):
+        self.depth, self.family = depth, family
         self.library = Library()
         self.session = Session(self.library, depth, KEYS)
         self.tally = Tally("cuts")
         self.cuts = self.recoveries = 0
+        self.nested = 0 if (depth, family) == (3, 1) else 2  # cuts of recoveries in a row
         self.most = {"read": 0, "write": 0, "recover": 0}
 
     def call(self, name, line, text, allowance, module):
@@ -54,7 +57,7 @@ class Cuts:
         return code, numbers_of(slices), model.Module(slices[2], slices[1], slices[3])
 
     def scenario(self, what, before, name, line):
-        module = states.written(states.formatted(self.depth), *before)
+        module = states.written(states.formatted(self.depth, self.family), *before)
         text = text_of(200)
         code, (whole, _, _), _ = self.call(name, line, text, UNLIMITED, module)
         self.tally.check(code != CUT, "%s: cut without a limit" % what)
@@ -67,7 +70,7 @@ class Cuts:
             book = book_of(before).after_write(line, text, committed)
             self.cuts += 1
             for cache in self.caches(after.cache, allowance):
-                self.recover(what, after._replace(cache=cache), book, 2)
+                self.recover(what, after._replace(cache=cache), book, self.nested)
 
     def caches(self, cache, seed):
         """What the cache may hold after a cut: here what it held, zeros, and junk."""
@@ -89,13 +92,15 @@ class Cuts:
                 self.recover(what, cut, book, cuts_left - 1 if self.depth == 1 else 0)
 
 
-def at_depth(depth):
-    cuts = Cuts(depth)
+def of_modules(job):
+    """Of a depth and a family."""
+    depth, family = job
+    cuts = Cuts(depth, family)
     for what, before, name, line in scenarios(depth):
         cuts.scenario(what, before, name, line)
     for name, most in cuts.most.items():
         cuts.tally.check(most == states.MOST_STORES[depth][name], "depth %d: nv_%s made %d stores" % (depth, name, most))
-    return depth, cuts.cuts, cuts.recoveries, cuts.most, cuts.tally.passed, cuts.tally.failed
+    return job, cuts.cuts, cuts.recoveries, cuts.most, cuts.tally.passed, cuts.tally.failed
 
 
 # ---- The bench listing ----
@@ -122,9 +127,10 @@ def main():
     tally = Tally("cuts")
     printed = model.bench(states.LISTING, run_by(Library()))
     tally.check(printed == states.PRINTED, "bench listing: %s" % printed)
-    for depth, cuts, recoveries, most, passed, failed in in_parallel(at_depth, states.DEPTHS):
-        print("cuts: depth %d: %d cuts, %d recoveries from them, stores at most: %s" % (
-            depth, cuts, recoveries, ", ".join("nv_%s %d" % call for call in most.items())))
+    jobs = [(depth, family) for depth in reversed(states.DEPTHS) for family in model.FAMILIES]
+    for (depth, family), cuts, recoveries, most, passed, failed in in_parallel(of_modules, jobs):
+        print("cuts: depth %d%s: %d cuts, %d recoveries from them, stores at most: %s" % (
+            depth, ", family 1" if family else "", cuts, recoveries, ", ".join("nv_%s %d" % call for call in most.items())))
         tally.add(passed, failed)
     tally.finish()
 

@@ -1,4 +1,5 @@
-"""Lists of dirty pages through the library, byte by byte: the pages of dirty counter slots in rising number, then FF hex.
+"""Lists of dirty pages through the library, byte by byte: the pages of dirty counter slots in rising number, then FF hex, in both
+families.
 
 At depth 1 every state of the four counter slots: each empty, or with one of its two pages, clean or dirty. At depths 2 and 3
 each has its lowest page, its last or one of two between, clean or dirty, in every combination.
@@ -34,8 +35,8 @@ def every_combination(depth):
                      for slot in range(4)))
 
 
-def hold(tally, library, depth, counters):
-    control, cache = states.formatted(depth).control, cache_of(depth, counters)
+def hold(tally, library, depth, family, counters):
+    control, cache = states.formatted(depth, family).control, cache_of(depth, counters)
     pages = sorted(owner - 1 for owner, dirty in counters if dirty)
     listed = b"".join(page.to_bytes(8, "little") for page in pages).ljust(32, b"\xff")
     arguments = (control, cache, LIST, NUMBERS)
@@ -48,7 +49,8 @@ def main():
     for depth in states.DEPTHS:
         held = 0
         for counters in every_state() if depth == 1 else every_combination(depth):
-            hold(tally, library, depth, counters)
+            for family in model.FAMILIES:
+                hold(tally, library, depth, family, counters)
             held += 1
         tally.check(held == STATES[depth], "depth %d: %d states" % (depth, held))
         print("dirty pages: depth %d: %d states of the counter slots" % (depth, held))

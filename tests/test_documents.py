@@ -108,6 +108,8 @@ def rows():
     yield firmware, f"It sets {N} bytes in two places of the control record, in {N} instructions of this build", commit
     yield firmware, f"the lines that are left: {N} bytes, on this build in {N} instructions", commit
     yield firmware, f"At every depth it does so for {N} calls", [stepped]
+    by_tag = [len(said(fr"instructions: depth {depth}, family 1: (?!recovery from).* (\d+) stores, .*")) for depth in (1, 3)]
+    yield firmware, f"it is the same {N} calls at depth 1 and {N} calls with long batches at depths 2 and 3", by_tag
     yield firmware, fr"\| array \| {N} at depth 1; {N} at 2; {N} at 3 \|", arrays
     yield firmware, fr"\| cache \| {N}; {N}; {N} \|", caches
     yield firmware, f"Depths 1, 2 and 3 have {N}, {N} and {N} lines", lines
@@ -132,6 +134,8 @@ def rows():
         yield performance, fr"\| `{call}` \| {N} \| [\d,]+ \|\n", [int(size)]
     for depth, count in said(r"instructions: depth (\d): recovery, full shadow +0 stores, +(\d+) instructions, .*"):
         yield performance, fr"\| {depth} \| [\d,]+ bytes \| \d+ \| \d+ \| {N} \|", [near(int(count))]
+    for count in said(r"instructions: depth 1, family 1: recovery, full shadow +0 stores, +(\d+) instructions, .*"):
+        yield performance, f"At depth 1 that is {N} instructions", [near(int(count))]
 
 
 def check_numbers(tally):

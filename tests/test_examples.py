@@ -68,7 +68,7 @@ def before_eviction():
 
 
 def theorem(name, left, right, opened):
-    return "\n%s :\n    %s\n    ≡ %s\nunfolding run sparse upTo %s\n%s = refl\n" % (name, left, right, opened, name)
+    return "\n%s :\n    %s\n    ≡ %s\nunfolding %s\n%s = refl\n" % (name, left, right, " ".join(["run sparse upTo", opened]).strip(), name)
 
 
 def written(start):
@@ -155,7 +155,7 @@ def turned(start):
             + theorem("turned", "shapes (turnBatches (upTo 48 0) 0 start (start .cache) [])", shapes(whole), "shapes start")
             + theorem("resumed", "shapes (turnBatches (upTo 48 0) 0\n    %s (start .cache) [])" % resuming, shapes(resumed),
                       "shapes start openControl")
-            + theorem("last", "batchesOf 1 (upTo 48 0) (start .array) (start .cache) 0 0 [] (2 ∷ [])", last, "start"))
+            + theorem("last", "batchesOf 1 0 (upTo 48 0) (start .array) (start .cache) 0 0 [] (2 ∷ [])", last, "start"))
 
 
 def finished(start):
@@ -201,6 +201,17 @@ def failing(start):
         "failing-told", listed_terms(answers), listed_terms(told), "start")
 
 
+def chosen(start):
+    """Where there is no phase byte: what none and several candidates give, and the step of line 1 whose cell is that of the last."""
+    content = bytes([5]) * 64
+    cell = content + model.data_side(KEYS, 1, content, 1, 3, 6)
+    none, several, last = (model.choice(found) for found in ([], [5, 6], model.fitting(KEYS, cell, 1, 3, 3)))
+    assert last == (None, 6)
+    step = "lineStep (record { family = 1; keys = upTo 48 0; array = replicate 72 0 ++ (%s); major = 3 }) 1 3" % literal(cell)
+    return theorem("chosen", listed_terms(["byChoice None", "byChoice Several", step]),
+                   listed_terms(["bad %d" % none[0], "bad %d" % several[0], "to %d" % last[1]]), "")
+
+
 def judged(start):
     """A cache that is not formed is judged before a page that is open."""
     module = start._replace(control=opened(start), cache=bytes([9]) + start.cache[1:])
@@ -226,13 +237,14 @@ def listed(start):
 
 HEAD = """\
 -- Written by tests/test_examples.py: a write with an eviction and a stop-loss store, outputs of reads, the batches of a turn and of a
--- resumed one, what a recovery rebuilds, where a page is open too, the line that ends one, refusals in sequence, and a list of dirty
--- pages. Assumes nothing.
+-- resumed one, what a recovery rebuilds, where a page is open too, the line that ends one, the step of a line without a phase byte,
+-- refusals in sequence, and a list of dirty pages. Assumes nothing.
 use mathlib.Core.Path.{_≡_, refl}
-use mathlib.Core.List.{List, [], _∷_, map}
+use mathlib.Core.List.{List, [], _∷_, _++_, map}
 use Prim.Native.Nat.{ℕ, _*_}
 use lib.ListN.{replicate, set}
 use Rattle.words.specs.Bytes.{part}
+use Rattle.candidates.specs.declared.Choice.the-variants.{None, Several}
 use Rattle.answer.specs.declared.Answer.{Answer}
 use Rattle.answer.specs.declared.Answer.the-variants.{Done, Blank, Cut, Refused}
 use Rattle.cache.specs.Cache.{emptyCache}
@@ -242,7 +254,7 @@ use Rattle.calls.specs.Call.{Module, Called, accessRefusal}
 use Rattle.calls.specs.Read.{Reading, read}
 use Rattle.calls.specs.Write.{write}
 use Rattle.calls.specs.Turn.{Batch, turnRefusal, turnFront, turnBatches, batchesOf, beforeLast}
-use Rattle.calls.specs.Recovery.{soFar, failed, rebuildBlocks, rebuildNodes, recoverRebuilt}
+use Rattle.calls.specs.Recovery.{to, bad, byChoice, lineStep, soFar, failed, rebuildBlocks, rebuildNodes, recoverRebuilt}
 use Rattle.calls.specs.DirtyPages.{dirtyPages}
 use Rattle.calls.proofs.Run.{run}
 use Rattle.calls.proofs.Sparse.{sparse, upTo}
@@ -285,7 +297,7 @@ def main(words):
         return 2
     start = before_eviction()
     text = HEAD % (module_text(start), literal(opened(start)))
-    for runs_of in written, reads, turned, finished, rebuilt, rebuilt_open, failing, judged, listed:
+    for runs_of in written, reads, turned, finished, rebuilt, rebuilt_open, failing, chosen, judged, listed:
         text += runs_of(start)
     path = os.path.join(TOP, FILE)
     if words:

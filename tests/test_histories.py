@@ -1,9 +1,10 @@
-"""Histories through the library against the paper's history rule. The book is kept here, from the list alone.
+"""Histories through the library against the paper's history rule, in both families. The book is kept here, from the list alone.
 
 Random histories have any lines, pages, texts, allowances and power cuts, and calls that are refused without a store, some of
 them with other keys of 48 bytes; small lists are gone through whole, with a cut after every store of every call, in recoveries
-too, and other caches after a cut. After each done recovery every clause of the rule is checked, the texts of all lines too.
-An argument is another seed.
+too, and other caches after a cut. After each done recovery every clause of the rule is checked, the texts of all lines too. A
+recovery may be refused as 34 only where a line's cell fits another counter than its count in the book; test_few_bits.py comes to
+such lines. An argument is another seed.
 """
 
 import random
@@ -17,62 +18,73 @@ from library import CUT, DONE, Library, REFUSED, Session, Tally, in_parallel
 from model import UNLIMITED
 from states import KEYS, text_of
 
-RANDOM = {1: (300, 120), 2: (100, 90), 3: (40, 80)}  # histories and their lengths
-# What lists of each kind must reach at each depth, whatever the seed: calls, those cut, recoveries after which the rule was
-# checked, turns finished, writes of worn lines refused.
+RANDOM = {(1, 0): 300, (2, 0): 100, (3, 0): 40, (1, 1): 150, (2, 1): 50, (3, 1): 20}  # histories of a depth and a family,
+LENGTHS = {1: 120, 2: 90, 3: 80}  # and their lengths
+# What lists of each kind must reach at each depth and in each family, whatever the seed: calls, those cut, recoveries after
+# which the rule was checked, turns finished, writes of worn lines refused.
 REACHED = ("calls", "cut", "recoveries", "turns", "worn")
 FLOORS = {
-    ("small", 1): (200000, 98000, 100000, 3900, 0),
-    ("random", 1): (40000, 1200, 4000, 2000, 0),
-    ("random", 2): (10000, 400, 1000, 450, 0),
-    ("random", 3): (3500, 150, 350, 150, 0),
-    ("worn", 1): (600, 100, 140, 3, 50),
-    ("worn", 2): (600, 100, 140, 3, 50),
-    ("worn", 3): (600, 100, 140, 3, 50),
+    ("small", 1, 0): (200000, 98000, 100000, 3900, 0),
+    ("random", 1, 0): (40000, 1200, 4000, 2000, 0),
+    ("random", 2, 0): (10000, 400, 1000, 450, 0),
+    ("random", 3, 0): (3500, 150, 350, 150, 0),
+    ("small", 1, 1): (60000, 30000, 30000, 3900, 0),
+    ("random", 1, 1): (20000, 600, 2000, 1000, 0),
+    ("random", 2, 1): (5000, 200, 500, 220, 0),
+    ("random", 3, 1): (1700, 70, 170, 70, 0),
 }
+FLOORS.update({("worn", depth, family): (600, 100, 140, 3, 50) for depth in states.DEPTHS for family in model.FAMILIES})
 # Calls of random lists that are refused without a store: each kind, its codes; and how many of each there must be at each depth.
 REFUSALS = {
     "another depth": (101, 104),
+    "another family": (101,),
     "past the map": (106,),
     "keys of another length": (102,),
     "a buffer of another length": (105, 107),
     "read with other keys": (124, 125, 130),
     "write with other keys": (124, 130),
     "turn with other keys": (124, 125, 130),
-    "recover with other keys": (129,),
+    "recover with other keys": (129, 133, 134),
 }
-REFUSED_AT_LEAST = {1: 1000, 2: 400, 3: 120}
+REFUSED_AT_LEAST = {(1, 0): 1000, (2, 0): 400, (3, 0): 120, (1, 1): 500, (2, 1): 200, (3, 1): 50}
 UNTOUCHED = b"\x5a" * 64
 SQUARES = bytes(i * i % 251 for i in range(730))
-# Small lists: lines written before, their length, the events, and how many cuts recovery may meet in a row.
+# Small lists: their families, lines written before, their length, the events, and how many cuts recovery may meet in a row.
 SMALL = (
-    ((), 2, (("write", 0), ("write", 1), ("write", 256), ("write", 320), ("read", 0), ("read", 257)), 2),
-    ((), 3, (("write", 0), ("write", 256), ("read", 64)), 1),
-    ((0, 1, 256), 2, (("turn", 0), ("turn", 4), ("turn", 1), ("write", 0), ("write", 257), ("read", 1)), 1),
-    ((0, 1), 3, (("turn", 0), ("write", 256)), 0),
+    ((0,), (), 2, (("write", 0), ("write", 1), ("write", 256), ("write", 320), ("read", 0), ("read", 257)), 2),
+    ((1,), (), 2, (("write", 0), ("write", 1), ("write", 256), ("read", 257)), 2),
+    ((0,), (), 3, (("write", 0), ("write", 256), ("read", 64)), 1),
+    ((0, 1), (0, 1, 256), 2, (("turn", 0), ("turn", 4), ("turn", 1), ("write", 0), ("write", 257), ("read", 1)), 1),
+    ((0, 1), (0, 1), 3, (("turn", 0), ("write", 256)), 0),
 )
 
 
 class Rule:
     """A module in the library, the book of its history, and the rule."""
 
-    def __init__(self, depth):
-        self.library = Library()
-        self.session = Session(self.library, depth, KEYS)
-        self.scratch = Session(self.library, depth, KEYS)
-        self.depth = depth
+    def __init__(self, depth, family, keys=KEYS, library=None):
+        self.library = library or Library()
+        self.session = Session(self.library, depth, keys)
+        self.scratch = Session(self.library, depth, keys)
+        self.depth, self.family, self.keys = depth, family, keys
         self.tally = Tally("histories")
         self.reached = Counter()
         self.start()
 
     def start(self):
-        code = self.session.make("format", depth=self.depth)[0]
+        code = self.session.format(self.family)[0]
         self.tally.check(code == DONE, "format gave %d" % code)
         self.book = Book()
+        self.down = False  # whether power failed, and only recoveries may stand until one is done
 
     def note(self, code):
         self.reached["calls"] += 1
         self.reached["cut"] += code == CUT
+        self.down = code == CUT or self.down and code != DONE
+
+    def lose_power(self, rng):
+        self.session.put("cache", any_cache(rng, self))
+        self.down = True
 
     def stores_of_whole(self, line, text):
         """The stores that a write makes from here with stores enough."""
@@ -126,14 +138,24 @@ class Rule:
     def recover(self, allowance):
         code, stores, told, _ = self.session.recover(allowance)
         self.note(code)
-        self.tally.check(code in (DONE, CUT), "recovery refused: %d" % code)
         if code == CUT:
             self.tally.check(stores == allowance, "recovery cut after %d of %d" % (stores, allowance))
-        if code == DONE:
+        elif code == DONE:
             self.reached["recoveries"] += 1
-            faults = faults_after_recovery(self.book, self.session, KEYS, told)
+            faults = faults_after_recovery(self.book, self.session, self.keys, told)
             self.tally.check(not faults, "after recovery: %s" % faults[:3])
+        else:
+            self.refused_recovery(code)
         return code
+
+    def refused_recovery(self, code):
+        """The one refusal that the rule leaves open, and its premise."""
+        doubt = model.lines_in_doubt(self.keys, self.session.module(), self.book.counts)
+        self.tally.check(code == REFUSED + 34 and doubt, "recovery refused: %d, lines in doubt: %s" % (code, doubt))
+
+    def drawn_text(self, rng, line):
+        """The text of a write."""
+        return rng.randbytes(64)
 
     def state(self):
         return self.session.module(), self.book.copy()
@@ -153,16 +175,19 @@ def any_cache(rng, rule):
                        states.patched(old, slot, rng.randbytes(model.SLOT_LENGTH)), old[::-1]])
 
 
-def calls_to_refuse(rng, depth):
+def calls_to_refuse(rng, depth, keys):
     """A call of each kind but recovery's: kind, keys, name, lengths that are wrong, numbers."""
     others = [0, 4, 2**64 - 1] + [other for other in states.DEPTHS if other != depth]
+    families = [2, 255, 2**32, 2**64 - 1]
     line, past = rng.randrange(model.lines(depth)), rng.choice([model.lines(depth), 2**32, 2**64 - 1])
-    some = rng.choice([KEYS, states.OTHER_PAD, states.OTHER_TAG, rng.randbytes(48)])
-    tags = rng.choice([KEYS[:32], rng.randbytes(32)]) + rng.choice([states.OTHER_TAG[32:], rng.randbytes(16)])
+    other_tag = keys[:47] + bytes([keys[47] ^ 1])
+    some = rng.choice([keys, bytes([keys[0] ^ 1]) + keys[1:], other_tag, rng.randbytes(48)])
+    tags = rng.choice([keys[:32], rng.randbytes(32)]) + rng.choice([other_tag[32:], rng.randbytes(16)])
     name = rng.choice(["read", "write", "turn"])
     part = rng.choice(["numbers", {"read": "out", "write": "text", "turn": "cache"}[name]])
     numbers = {"line": line, "page": line // 64, "allowance": rng.choice([0, UNLIMITED])}
-    yield "another depth", some, "format", {}, {"depth": rng.choice(others)}
+    yield "another depth", some, "format", {}, {"depth": rng.choice(others), "family": rng.choice([0, 1, 0, 1, *families])}
+    yield "another family", some, "format", {}, {"depth": rng.choice([depth, *others]), "family": rng.choice(families)}
     yield "past the map", some, name, {}, {**numbers, "line": past, "page": past}
     yield "keys of another length", some, name, {"keys": rng.choice([0, 47, 49])}, numbers
     yield "a buffer of another length", some, name, {part: rng.choice([0, 23, 65])}, numbers
@@ -170,18 +195,19 @@ def calls_to_refuse(rng, depth):
         yield name + " with other keys", tags, name, {}, numbers
 
 
-def recovery_to_refuse(rng):
-    tags = KEYS[:32] + rng.randbytes(16)
+def recovery_to_refuse(rng, keys):
+    tags = keys[:32] + rng.randbytes(16)
     yield "recover with other keys", tags, "recover", {}, {"allowance": rng.choice([0, UNLIMITED])}
 
 
 def with_keys(session, keys, name, lengths, numbers):
     """What a call with these keys answers; the session's own stay."""
+    own = session.get("keys")
     session.put("keys", keys)
     session.put("out", UNTOUCHED)
     session.put("numbers", bytes(24))
     answer = session.make(name, lengths, **numbers)
-    session.put("keys", KEYS)
+    session.put("keys", own)
     return answer
 
 
@@ -197,6 +223,7 @@ def refused_calls(rule, calls):
         rule.tally.check(code in REFUSALS[kind] and stores == 0, "%s gave %d" % (kind, code))
         rule.note(code)
         rule.reached[kind] += 1
+        rule.reached[kind, code] += 1
         rule.tally.check(with_keys(rule.session, *call) == (code, 0, *place), "%s: not as on a copy" % kind)
         rule.tally.check(rule.session.module() == before and rule.session.get("out") == UNTOUCHED,
                          "%s: a refused call changed the module or its output" % kind)
@@ -218,31 +245,30 @@ def random_history(rule, rng, length):
     hot += [line ^ 256 for line in hot] + [line ^ 1 for line in hot]
     hot = [line % model.lines(rule.depth) for line in hot]
     failing = rng.choice([2, 4, 12])
-    down = False
     for step in range(length):
         allowance = rng.randrange(20) if rng.randrange(failing) == 0 else UNLIMITED
-        if down or rng.randrange(12) == 0:
+        if rule.down or rng.randrange(12) == 0:
             if rng.randrange(2):
-                rule.session.put("cache", any_cache(rng, rule))
-                down = True
-            refused_calls(rule, recovery_to_refuse(rng))
+                rule.lose_power(rng)
+            refused_calls(rule, recovery_to_refuse(rng, rule.keys))
             code = rule.recover(allowance if rng.randrange(2) else UNLIMITED)
-            down = code == CUT
+            if rule.down and code > REFUSED:  # only recoveries may follow, and they are refused too
+                break
             continue
         line = rng.choice(hot) if rng.randrange(8) else rng.randrange(model.lines(rule.depth))
         style = rng.randrange(10)
         if style < 5:
-            down = rule.write(line, rng.randbytes(64), allowance) == CUT
+            rule.write(line, rule.drawn_text(rng, line), allowance)
         elif style < 6:
-            down = random_turn(rng, rule, line // 64, allowance) == CUT
+            random_turn(rng, rule, line // 64, allowance)
         elif style < 8:
-            down = rule.read(line, allowance) == CUT
+            rule.read(line, allowance)
         elif style < 9:
             dirty_pages(rule)
         else:
-            refused_calls(rule, calls_to_refuse(rng, rule.depth))
-    rule.session.put("cache", any_cache(rng, rule))
-    rule.tally.check(rule.recover(UNLIMITED) == DONE, "the last recovery")
+            refused_calls(rule, calls_to_refuse(rng, rule.depth, rule.keys))
+    rule.lose_power(rng)
+    rule.tally.check(rule.recover(UNLIMITED) in (DONE, REFUSED + 34), "the last recovery")
     rule.tally.check(rule.session.guards_hold(), "guard bytes")
 
 
@@ -250,19 +276,19 @@ def random_turn(rng, rule, page, allowance):
     """A turn of the page, or mostly of the open one, if there is one."""
     if rule.book.open_page is not None and rng.randrange(4):
         page = rule.book.open_page
-    return rule.turn(page, allowance if allowance == UNLIMITED else rng.randrange(60))
+    rule.turn(page, allowance if allowance == UNLIMITED else rng.randrange(60))
 
 
-def random_part(depth, seed):
-    rule = Rule(depth)
-    random_history(rule, random.Random(seed), RANDOM[depth][1])
-    return depth, rule
+def random_part(depth, family, seed):
+    rule = Rule(depth, family)
+    random_history(rule, random.Random(seed), LENGTHS[depth])
+    return rule
 
 
-def worn_part(depth):
+def worn_part(depth, family):
     """One line until it is worn, with cuts and recoveries on the way; its writes are then refused, its text stays. Then its
     page is turned, cut as often as it takes, and the line is written on until it is worn again."""
-    rule = Rule(depth)
+    rule = Rule(depth, family)
     line = model.lines(depth) - 5
     rng = random.Random(depth)
     for other in (line - 1, line + 3):
@@ -270,17 +296,17 @@ def worn_part(depth):
     for turns in range(3):
         for step in range(160):
             if rule.write(line, rng.randbytes(64), step % 7 if step % 3 == 0 else UNLIMITED) == CUT or step % 10 == 0:
-                rule.session.put("cache", any_cache(rng, rule))
+                rule.lose_power(rng)
                 rule.recover(UNLIMITED)
         rule.tally.check(rule.book.counts[line] == 127, "the line's count is %d" % rule.book.counts[line])
         rule.tally.check(rule.book.turns == ({line // 64: turns} if turns else {}), "turns: %s" % rule.book.turns)
         rule.read(line, UNLIMITED)
         while rule.turn(line // 64, rng.randrange(12)) == CUT:
-            rule.session.put("cache", any_cache(rng, rule))
+            rule.lose_power(rng)
             rule.recover(UNLIMITED)
             if rule.book.turns.get(line // 64, 0) > turns:
                 break
-    return depth, rule
+    return rule
 
 
 # ---- Small lists, whole ----
@@ -324,48 +350,54 @@ def every_recovery(rule, seed, cuts_left):
     rule.tally.check(rule.recover(UNLIMITED) == DONE, "recovery not done")
 
 
-def small_part(lines, events, alphabet, cuts_left, first):
+def small_part(family, lines, events, alphabet, cuts_left, first):
     """The small lists that start with one event, after these lines were written."""
-    rule = Rule(1)
+    rule = Rule(1, family)
     for line in lines:
         rule.write(line, text_of(line + 100), UNLIMITED)
     small_lists(rule, events, alphabet, cuts_left, (first,))
     rule.tally.check(rule.session.guards_hold(), "guard bytes")
-    return 1, rule
+    return rule
 
 
 def work(job):
     kind, *rest = job
-    depth, rule = {"random": random_part, "worn": worn_part, "small": small_part}[kind](*rest)
-    return kind, depth, rule.reached, rule.tally.passed, rule.tally.failed
+    rule = {"random": random_part, "worn": worn_part, "small": small_part}[kind](*rest)
+    return (kind, rule.depth, rule.family), rule.reached, rule.tally.passed, rule.tally.failed
 
 
-def check_reached(tally, kind, depth, reached):
-    """Says what the lists of one kind reached at a depth, and holds it to the floors."""
-    for what, floor in zip(REACHED, FLOORS[kind, depth]):
-        tally.check(reached[what] >= floor, "depth %d: lists (%s): %d %s" % (depth, kind, reached[what], what))
-    print("histories: depth %d: lists (%s): %d calls, %d of them cut, the rule checked after %d recoveries, %d lines read after "
-          "each, %d turns finished, %d writes of worn lines refused" % (
-              depth, kind, *(reached[what] for what in REACHED[:3]), model.lines(depth), *(reached[what] for what in REACHED[3:])))
+def check_reached(tally, lists, reached):
+    """Says what the lists of one kind reached at a depth in a family, and holds it to the floors."""
+    kind, depth, family = lists
+    where = "depth %d, family %d: lists (%s)" % (depth, family, kind)
+    for what, floor in zip(REACHED, FLOORS[lists]):
+        tally.check(reached[what] >= floor, "%s: %d %s" % (where, reached[what], what))
+    print("histories: %s: %d calls, %d of them cut, the rule checked after %d recoveries, %d lines read after each, %d turns "
+          "finished, %d writes of worn lines refused" % (
+              where, *(reached[what] for what in REACHED[:3]), model.lines(depth), *(reached[what] for what in REACHED[3:])))
     if kind == "random":
         for what in REFUSALS:
-            tally.check(reached[what] >= REFUSED_AT_LEAST[depth], "depth %d: refused calls, %s: %d" % (depth, what, reached[what]))
-        print("histories: depth %d: lists (random): refused without a store: %s" % (
-            depth, ", ".join("%d %s" % (reached[what], what) for what in REFUSALS)))
+            tally.check(reached[what] >= REFUSED_AT_LEAST[depth, family], "%s: refused calls, %s: %d" % (where, what, reached[what]))
+        recoveries = {code: reached["recover with other keys", code] for code in REFUSALS["recover with other keys"]}
+        tally.check(recoveries[134] == 0 and (recoveries[133] > 20 * recoveries[129] if family else recoveries[133] == 0),
+                    "%s: recoveries with other keys: %s" % (where, recoveries))
+        print("histories: %s: refused without a store: %s" % (
+            where, ", ".join("%d %s" % (reached[what], what) for what in REFUSALS)))
 
 
 def main():
     seed = int(sys.argv[1], 0) if len(sys.argv) > 1 else 20261115
     tally = Tally("histories")
-    jobs = [("small", lines, events, alphabet, cuts, first) for lines, events, alphabet, cuts in SMALL for first in alphabet]
-    jobs += [("random", depth, 1000 * seed + 100 * depth + i) for depth in states.DEPTHS for i in range(RANDOM[depth][0])]
-    jobs += [("worn", depth) for depth in states.DEPTHS]
+    jobs = [("small", family, *small, first) for families, *small in SMALL for family in families for first in small[2]]
+    jobs += [("random", depth, family, 1000 * seed + 100 * depth + 500 * family + i)
+             for (depth, family), histories in RANDOM.items() for i in range(histories)]
+    jobs += [("worn", depth, family) for depth in states.DEPTHS for family in model.FAMILIES]
     sums = {}
-    for kind, depth, reached, passed, failed in in_parallel(work, jobs):
-        sums[kind, depth] = sums.get((kind, depth), Counter()) + reached
+    for lists, reached, passed, failed in in_parallel(work, jobs):
+        sums[lists] = sums.get(lists, Counter()) + reached
         tally.add(passed, failed)
-    for kind, depth in FLOORS:
-        check_reached(tally, kind, depth, sums[kind, depth])
+    for lists in FLOORS:
+        check_reached(tally, lists, sums[lists])
     tally.finish()
 
 

@@ -20,7 +20,7 @@ LENT_FOR_READING = {"keys", "text"}
 COMPILERS = {"c": ("gcc", "clang"), "c++": ("g++", "clang++")}  # the second of each if it is installed
 DIALECTS = (("c", "c99"), ("c", "c11"), ("c++", "c++17"), ("c++", "c++20"))
 STRICT = ("-Wall", "-Wextra", "-Wpedantic", "-Wconversion", "-Wsign-conversion", "-Wshadow", "-Werror")
-REFUSALS = list(range(1, 8)) + list(range(21, 33))
+REFUSALS = list(range(1, 8)) + list(range(21, 35))
 DIVISION = re.compile(r"\bv?(?:i|f|fi)?div\w*")
 DIVIDED = [("%sint%d_t" % (sign, bits), operator) for sign in ("", "u") for bits in (8, 16, 32, 64) for operator in "/%"]
 DIVIDED += [(kind, "/") for kind in ("float", "double", "long double")]
@@ -28,7 +28,7 @@ DIVIDED += [(kind, "/") for kind in ("float", "double", "long double")]
 # The plain calls, with codes in a comparison and in a `case`, and constants that are joined.
 PROGRAM = """#include "nightvelvet.h"
 #include <string.h>
-#if NV_VERSION < 5
+#if NV_VERSION < 6
 #error
 #endif
 static uint8_t control[NV_CONTROL_LENGTH], array[NV_ARRAY_LENGTH_1], cache[NV_CACHE_LENGTH_1], text[NV_TEXT_LENGTH],
@@ -48,8 +48,8 @@ static int kind_of(uint32_t code)
 int main(void)
 {
     text[0] = 7;
-    return nv_format(1, keys, sizeof keys, control, sizeof control, array, sizeof array, cache, sizeof cache, numbers,
-                     sizeof numbers) != NV_DONE
+    return nv_format(1, NV_FAMILY_TAG, keys, sizeof keys, control, sizeof control, array, sizeof array, cache, sizeof cache,
+                     numbers, sizeof numbers) != NV_DONE
         || control[NV_DEPTH_AT] != 1
         || nv_write(keys, sizeof keys, control, sizeof control, array, sizeof array, cache, sizeof cache, 3, text,
                     sizeof text, UINT64_MAX, numbers, sizeof numbers) != NV_DONE
@@ -166,9 +166,10 @@ def signatures(tally, text):
 def constants(tally, text, told):
     """The header's constants, as a C program tells them, held to the model."""
     values = {name: int(value) for name, value in re.findall(r"^constant (\w+) (\d+)$", told, re.M)}
-    wanted = {"NV_VERSION": 5, "NV_KEYS_LENGTH": model.KEYS_LENGTH, "NV_CONTROL_LENGTH": model.CONTROL_LENGTH,
+    wanted = {"NV_VERSION": 6, "NV_KEYS_LENGTH": model.KEYS_LENGTH, "NV_CONTROL_LENGTH": model.CONTROL_LENGTH,
               "NV_TEXT_LENGTH": model.CONTENT, "NV_LIST_LENGTH": model.LIST_LENGTH, "NV_NUMBERS_LENGTH": 24,
-              "NV_PAGE_LINES": model.lines(1) // model.pages(1), "NV_BLANK_BYTE": model.BLANK_TEXT[0], "NV_DEPTH_AT": model.DEPTH_AT,
+              "NV_PAGE_LINES": model.lines(1) // model.pages(1), "NV_FAMILY_PHASE": model.PHASE_FAMILY,
+              "NV_FAMILY_TAG": model.TAG_FAMILY, "NV_BLANK_BYTE": model.BLANK_TEXT[0], "NV_DEPTH_AT": model.DEPTH_AT,
               "NV_TURN_AT": model.TURN_AT, "NV_TURN_PAGE_AT": model.TURN_PAGE_AT, "NV_STORES_AT": 0, "NV_SUM_AT": 8,
               "NV_FIRST_AT": 8, "NV_SECOND_AT": 16, "NV_DONE": 0, "NV_BLANK": 1, "NV_CUT": 2, "NV_REFUSED": 100}
     for depth in DEPTHS:
@@ -266,7 +267,7 @@ def null_pointers(tally, library):
     content = {"keys": KEYS, "control": module.control, "array": module.array, "cache": module.cache, "out": bytes(64),
                "text": bytes(64), "list": bytes(32), "numbers": b"\xd3" * 24}
     refusals = {"keys": 102, "control": 103, "array": 104, "cache": 105, "out": 107, "text": 107, "list": 107, "numbers": 107}
-    counts = {"depth": 1, "line": 0, "page": 0, "allowance": model.UNLIMITED}
+    counts = {"depth": 1, "family": 0, "line": 0, "page": 0, "allowance": model.UNLIMITED}
     for name in SEQUENCES:
         for absent in SLICES[name]:
             expected = dict(content)

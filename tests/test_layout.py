@@ -1,5 +1,5 @@
 """docs/LAYOUT.md: its tables against the header, the constants of the code, those of the definitions and the model; and modules
-of the library, at all depths, read by these tables alone.
+of the library, at all depths and of both families, read by these tables alone.
 """
 
 import os
@@ -49,7 +49,7 @@ def tables(text):
 class Layout:
     """The tables of the document: fields as (byte, bytes) by their first words, and what each depth has."""
 
-    LENGTHS = {"Data cell": 72, "Counter block": 72, "Tree node": 72, "Shadow cell": 72}
+    LENGTHS = {"Counter block": 72, "Tree node": 72, "Shadow cell": 72}
 
     def __init__(self, text):
         self.tables = tables(text)
@@ -62,6 +62,8 @@ class Layout:
             for table in below:
                 if table[0] == ["Byte", "Bytes", "Content"]:
                     self.fields[name] = [(int(byte), int(size), content) for byte, size, content in table[1:]]
+        self.data_cells = [name for name in self.fields if name.startswith("Data cell")]  # of each family
+        self.lengths.update(dict.fromkeys(self.data_cells, 72))
         self.depths = {row[0]: row[1:] for row in self.tables["Layout"][0][1:]}
         self.cells = {row[0]: row[1:] for row in self.tables["Array: cells of 72 bytes"][0][1:]}
 
@@ -91,7 +93,8 @@ def whole(tally, layout):
             tally.check(byte == at, "%s: %s starts at %d, the one before ends at %d" % (name, content, byte, at))
             at = byte + size
         tally.check(at == layout.lengths[name], "%s has %d bytes of %d" % (name, at, layout.lengths[name]))
-    tally.check(len(layout.fields) == 10, "tables of bytes: %s" % sorted(layout.fields))
+    tally.check(len(layout.fields) == 11, "tables of bytes: %s" % sorted(layout.fields))
+    tally.check(len(layout.data_cells) == len(model.FAMILIES), "tables of data cells: %s" % layout.data_cells)
 
 
 def constants_of(pattern, *path):
@@ -119,7 +122,7 @@ def fields(tally, layout):
         tally.check(set(said) == {byte}, "%s is at %d, elsewhere %s" % (start, byte, said))
     lengths = {
         record: (header["NV_CONTROL_LENGTH"], code["LENGTH"], defined["controlLength"], model.CONTROL_LENGTH),
-        "Keys": (header["NV_KEYS_LENGTH"], model.KEYS_LENGTH), "Data cell": (model.CELL,),
+        "Keys": (header["NV_KEYS_LENGTH"], model.KEYS_LENGTH), "Array": (model.CELL,),
         "Queue place": (model.PLACE,), "Cache": (model.SLOT_LENGTH,),
         "List of dirty pages": (header["NV_LIST_LENGTH"], model.LIST_LENGTH),
         "Numbers of an answer": (header["NV_NUMBERS_LENGTH"],),
@@ -128,8 +131,10 @@ def fields(tally, layout):
         tally.check(set(said) == {layout.lengths[name]}, "%s has %d bytes, elsewhere %s" % (name, layout.lengths[name], said))
     answer = [byte for byte, _, _ in layout.fields["Numbers of an answer"]]
     tally.check(answer == [header["NV_STORES_AT"], header["NV_SUM_AT"], header["NV_SECOND_AT"]], "numbers at %s" % answer)
-    mark = bytes.fromhex(re.search(r"`PIGK`: ([0-9A-F ]+) hex", layout.fields[record][0][2]).group(1))
-    tally.check(mark == model.MARK, "the mark is %s" % mark)
+    marks = layout.fields[record][0][2]
+    names, digits = re.findall(r"`(PIG.)`", marks), re.findall(r"(?:[0-9A-F]{2} ){3}[0-9A-F]{2}", marks)
+    tally.check([name.encode() for name in names] == [bytes.fromhex(four) for four in digits] == list(model.MARKS),
+                "the marks are %s" % marks)
     version(tally, layout)
     return header
 
@@ -216,8 +221,9 @@ def stores(tally, layout):
 class Image:
     """A module after a done recovery, read by the tables alone."""
 
-    def __init__(self, layout, depth, module):
+    def __init__(self, layout, depth, family, module):
         self.layout, self.depth, self.module = layout, depth, module
+        self.data_cell, self.has_phase = layout.data_cells[family], family == 0
         self.pad_key = layout.part("Keys", "the key of the pads", KEYS)
         self.tag_key = layout.part("Keys", "the key of the tags", KEYS)
 
@@ -246,13 +252,13 @@ class Image:
         """The text of a line, or None; its phase and tag must be right."""
         major, minor = self.counter(line)
         cell = self.cell(line)
-        content = self.layout.part("Data cell", "the text", cell)
+        content = self.layout.part(self.data_cell, "the text", cell)
         if minor == 0:
             return None
         number8 = model.number8
-        assert self.layout.part("Data cell", "the phase", cell) == bytes([minor % 4])
-        tag = self.hash(content, number8(line), number8(major), number8(minor))[:7]
-        assert self.layout.part("Data cell", "the data tag", cell) == tag
+        tag = self.layout.part(self.data_cell, "the data tag", cell)
+        assert not self.has_phase or self.layout.part(self.data_cell, "the phase", cell) == bytes([minor % 4])
+        assert tag == self.hash(content, number8(line), number8(major), number8(minor))[:len(tag)]
         return model.xor(content, model.chacha20_block(self.pad_key, line, minor.to_bytes(4, "little") + number8(major)))
 
     def tag(self, level, index):
@@ -268,10 +274,10 @@ class Image:
         return self.layout.part("Control record", "the root", self.module.control) == self.tag(self.depth, 0)
 
 
-def made(session, depth, rng):
+def made(session, depth, family, rng):
     """A module of some writes, a finished turn and one that is cut: the texts of its lines."""
     texts = {}
-    assert session.make("format", depth=depth)[0] == DONE
+    assert session.format(family)[0] == DONE
     last = model.lines(depth)
     for line in [0, 3, 7, 63, 64, 65, last - 1] + [rng.randrange(last) for _ in range(40)] + [5] * 9:
         texts[line] = rng.randbytes(64)
@@ -280,19 +286,19 @@ def made(session, depth, rng):
     return texts
 
 
-def images(tally, layout, depth):
+def images(tally, layout, depth, family):
     session = Session(Library(), depth, KEYS)
     rng = random.Random(depth)
-    texts = made(session, depth, rng)
+    texts = made(session, depth, family, rng)
     session.put("cache", rng.randbytes(model.cache_length(depth)))
     tally.check(session.recover()[0] == DONE, "depth %d: recovery" % depth)
     module = session.module()
-    image = Image(layout, depth, module)
+    image = Image(layout, depth, family, module)
     for line in range(model.lines(depth)):
         tally.check(image.text(line) == texts.get(line), "depth %d: line %d read by the tables" % (depth, line))
     tally.check(image.tree_holds(), "depth %d: the tree by the tables" % depth)
     control = module.control
-    tally.check(layout.part("Control record", "the mark", control) == model.MARK, "the mark")
+    tally.check(layout.part("Control record", "the mark", control) == model.MARKS[family], "the mark")
     tally.check(layout.part("Control record", "the depth", control) == bytes([depth]), "the depth")
     top = model.node_cell(depth, depth, 0)
     tally.check(image.cell(top) == model.cell_at(states.formatted(depth).array, top), "depth %d: the top's cell has changed" % depth)
@@ -333,9 +339,10 @@ def main():
     header = fields(tally, layout)
     depths(tally, layout, header)
     stores(tally, layout)
-    for depth in DEPTHS:
-        images(tally, layout, depth)
-    print("layout: %d tables of bytes; every line of modules of depth 1, 2 and 3 read by them" % len(layout.fields))
+    for family in range(len(layout.data_cells)):
+        for depth in DEPTHS:
+            images(tally, layout, depth, family)
+    print("layout: %d tables of bytes; every line of modules of depth 1, 2 and 3 and of both families read by them" % len(layout.fields))
     tally.finish()
 
 

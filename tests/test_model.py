@@ -2,16 +2,18 @@
 
 import random
 import sys
+from itertools import product
 
 import model
 from model import (Answer, History, Module, UNLIMITED, array_length, bench,
-                   brought_forward, cache_length, cells, counter_block,
-                   dirty_list_call, for_c, format_call, forward_fault,
-                   minors_of, node_cell, number8, pages, lines, read_call,
-                   recover_call, run_history, shadow_cell, slot_of, slots,
-                   turn_call, write_call, zero_module)
-from states import (KEYS, LISTING, OTHER_PAD, OTHER_TAG, PRINTED, cell_patched,
-                    formatted, opened, patched, settled, text_of)
+                   brought_forward, cache_length, candidates, cells, choice,
+                   counter_block, dirty_list_call, fits, for_c, format_call,
+                   forward_fault, minors_of, node_cell, number8, pages, lines,
+                   read_call, recover_call, run_history, shadow_cell, slot_of,
+                   slots, turn_call, write_call, zero_module)
+from states import (KEYS, LISTING, OTHER_PAD, OTHER_TAG, PRINTED, block_stored,
+                    cell_patched, formatted, opened, patched, resealed,
+                    settled, text_of, with_stored_minor)
 
 OUTPUT = b"\x5a" * 64
 
@@ -106,6 +108,38 @@ def test_arithmetic():
                     slot_of(2, 1), slot_of(3, 0)), (3, 4, 5, 7, 8))
 
 
+def test_candidates():
+    """Without a phase byte: the minors tried, those that fit, the choice."""
+    for stored in range(128):
+        equal("candidates of %d" % stored, list(candidates(stored)),
+              [minor for minor in range(128) if 0 <= minor - stored <= 3])
+    for found, wanted in (([], (33, None)), ([0], (None, 0)),
+                          ([127], (None, 127)), ([5, 6], (34, None)),
+                          ([0, 3], (34, None)), ([1, 2, 3, 4], (34, None))):
+        equal("choice among %s" % found, choice(found), wanted)
+    content, major = bytes(range(64)), 2**64 - 3
+    for minor in (1, 2, 3, 4, 126, 127, 128):
+        tag = model.siphash_2_4(KEYS[32:], content + number8(9)
+                                + number8(major) + number8(minor))
+        cell = content + number8(tag)
+        equal("minors that a tag fits", [
+            other for other in range(132) if fits(KEYS, cell, 9, major, other)],
+              [minor])
+        check("another line, major, content or key",
+              not any((fits(KEYS, cell, 8, major, minor),
+                       fits(KEYS, cell, 9, major + 1, minor),
+                       fits(KEYS, b"\x01" + cell[1:], 9, major, minor),
+                       fits(OTHER_TAG, cell, 9, major, minor))))
+        for at in range(64, 72):
+            check("byte %d of a tag" % at, not fits(
+                KEYS, patched(cell, at, bytes([cell[at] ^ 128])), 9, major,
+                minor))
+    check("zero cell", fits(KEYS, bytes(72), 9, major, 0))
+    for at in range(72):
+        check("cell with byte %d" % at, not fits(
+            KEYS, patched(bytes(72), at, b"\x01"), 9, major, 0))
+
+
 # ---- Bench ----
 
 def test_bench():
@@ -142,9 +176,9 @@ def test_bench():
 
 # ---- Single calls ----
 
-def written(depth, *where):
+def written(depth, *where, family=0):
     """A module after done writes of the named lines, in order."""
-    module = formatted(depth)
+    module = formatted(depth, family)
     for count, line in enumerate(where):
         answer, module = write_call(KEYS, line, text_of(count), UNLIMITED,
                                     module)
@@ -153,14 +187,18 @@ def written(depth, *where):
 
 
 def test_format():
-    for depth in (1, 2, 3):
+    for depth, mark, family in ((1, b"PIGK", 0), (2, b"PIGK", 0),
+                                (3, b"PIGK", 0), (1, b"PIGN", 1),
+                                (2, b"PIGN", 1), (3, b"PIGN", 1)):
         dirty = Module(b"\x11" * array_length(depth), b"\x22" * 681,
                        b"\x33" * cache_length(depth))
-        answer, module = format_call(KEYS, depth, dirty)
+        answer, module = format_call(KEYS, depth, family, dirty)
         equal("format %d" % depth, answer, Answer("done", 0, 0, 0, 0))
         equal("control of format %d" % depth,
               (module.control[:7], module.control[15:]),
-              (b"PIGK\x01" + bytes([depth, 1]), bytes(666)))
+              (mark + b"\x01" + bytes([depth, 1]), bytes(666)))
+        equal("array of the other family", module.array,
+              formatted(depth, 1 - family).array)
         equal("cache of format %d" % depth, module.cache,
               bytes(cache_length(depth)))
         check("data and blocks of format %d are zero" % depth,
@@ -171,15 +209,20 @@ def test_format():
               not any(any(module.array[72 * cell + 64:72 * cell + 72])
                       for cell in range(cells(depth))))
         attempt("fresh state of depth %d" % depth,
-                lambda d=depth: run_history(
-                    KEYS, d, [("recover", KEYS, 0)]))
+                lambda d=depth, f=family: run_history(
+                    KEYS, d, [("recover", KEYS, 0)], f))
 
 
 def test_bytes_of_a_write():
     """Pad, tags and cells put together from the primitives alone."""
+    for family in (0, 1):
+        bytes_of_a_write(family)
+
+
+def bytes_of_a_write(family):
     text = bytes(range(100, 164))
     major = 0x0807060504030201
-    module = written(1, 130)
+    module = written(1, 130, family=family)
     block = number8(major) + module.cache[2 * 73 + 17:3 * 73]
     module = module._replace(cache=patched(module.cache, 2 * 73 + 9, block))
     answer, module = write_call(KEYS, 130, text, UNLIMITED, module)
@@ -191,8 +234,9 @@ def test_bytes_of_a_write():
     def tag(message):
         return model.siphash_2_4(KEYS[32:], message).to_bytes(8, "little")
 
-    side = b"\x02" + tag(content + number8(130) + number8(major)
-                         + number8(2))[:7]
+    side = tag(content + number8(130) + number8(major) + number8(2))
+    if family == 0:
+        side = b"\x02" + side[:7]
     equal("data cell", module.array[72 * 130:72 * 131], content + side)
     block = number8(major) + (2 << 14).to_bytes(56, "little")
     equal("counter slot", module.cache[2 * 73:3 * 73],
@@ -218,18 +262,24 @@ def test_bytes_of_a_write():
 
 def test_bytes_of_a_turn():
     """Data cells, block, tree and record put together from the primitives."""
+    for family in (0, 1):
+        bytes_of_a_turn(family)
+
+
+def bytes_of_a_turn(family):
     def tag(message):
         return model.siphash_2_4(KEYS[32:], message).to_bytes(8, "little")
 
-    module = written(1, 130, 130, 133, 5)
+    module = written(1, 130, 130, 133, 5, family=family)
     answer, after = turn_call(KEYS, 2, UNLIMITED, module)
     equal("turn of two lines", answer, Answer("done", 0, 14, 0, 0))
     for line, text in ((130, text_of(1)), (133, text_of(2))):
         stream = model.chacha20_block(
             KEYS[:32], line, bytes([1, 0, 0, 0, 1, 0, 0, 0, 0, 0, 0, 0]))
         content = bytes(a ^ b for a, b in zip(text, stream))
-        side = b"\x01" + tag(content + number8(line) + number8(1)
-                             + number8(1))[:7]
+        side = tag(content + number8(line) + number8(1) + number8(1))
+        if family == 0:
+            side = b"\x01" + side[:7]
         equal("turned cell %d" % line, after.array[72 * line:72 * line + 72],
               content + side)
     block = number8(1) + (1 << 14 | 1 << 35).to_bytes(56, "little")
@@ -355,22 +405,29 @@ def peeled(check_refused, inputs, defects):
 
 
 def test_format_refusals():
-    def check_refused(wanted, keys, depth, **parts):
+    def check_refused(wanted, keys, depth, family, **parts):
         module = Module(**parts)
-        equal("format refusal", format_call(keys, depth, module),
+        equal("format refusal", format_call(keys, depth, family, module),
               (wanted, module))
 
     module = zero_module(2)
-    for depth in (0, 4, 2**64 - 1):
-        peeled(check_refused, dict(module._asdict(), keys=KEYS, depth=2), [
+    for depth, family in ((0, 0), (4, 1), (2**64 - 1, 0), (2, 2), (2, 255),
+                          (2, 2**64 - 1), (4, 2)):
+        inputs = dict(module._asdict(), keys=KEYS, depth=2, family=family % 2)
+        peeled(check_refused, inputs, [
             (refusal(1), "depth", lambda _, d=depth: d),
             (refusal(2), "keys", short),
             (refusal(3), "control", short),
             (refusal(4), "array", longer),
             (refusal(5), "cache", longer),
+        ] if family < 2 else [
+            (refusal(1), "family", lambda _, f=family: f),
+            (refusal(2), "keys", short),
+            (refusal(4), "array", short),
         ])
+    for family in (0, 1):
         equal("format without a defect",
-              format_call(KEYS, 2, module)[0].kind, "done")
+              format_call(KEYS, 2, family, module)[0].kind, "done")
 
 
 LINE_DEFECTS = [
@@ -392,9 +449,9 @@ def line_inputs(module):
     return dict(module._asdict(), keys=KEYS, line=0, buffer=OUTPUT)
 
 
-def evicted(writes):
+def evicted(writes, family=0):
     """Line 0 written so often, its page then evicted by page 4."""
-    return written(1, *[0] * writes, 256)
+    return written(1, *[0] * writes, 256, family=family)
 
 
 def test_read_refusals():
@@ -405,13 +462,19 @@ def test_read_refusals():
                   read_call(keys, line, allowance, buffer, module),
                   (wanted, module, buffer))
 
-    module = evicted(1)
-    other_phase = bytes([module.array[64] ^ 4])
-    peeled(check_refused, line_inputs(module), LINE_DEFECTS + [
-        (refusal(25), "array", cell_bytes_at(0, 64, other_phase))])
-    for allowance, kind in ((0, "cut"), (UNLIMITED, "done")):
-        answer, _, _ = read_call(KEYS, 0, allowance, OUTPUT, module)
-        equal("read without a defect", answer.kind, kind)
+    for family in (0, 1):
+        module = evicted(1, family)
+        for at in range(72):
+            other = bytes([module.array[at] ^ 4])
+            peeled(check_refused, line_inputs(module),
+                   LINE_DEFECTS[at and 99:] + [
+                       (refusal(25), "array", cell_bytes_at(0, at, other))])
+        for allowance, kind in ((0, "cut"), (UNLIMITED, "done")):
+            answer, _, _ = read_call(KEYS, 0, allowance, OUTPUT, module)
+            equal("read without a defect", answer.kind, kind)
+    other_mark = module._replace(control=patched(module.control, 0, b"PIGK"))
+    equal("tag of the other family",
+          read_call(KEYS, 0, 0, OUTPUT, other_mark)[0], refusal(25))
 
 
 def test_write_refusals():
@@ -441,19 +504,21 @@ def test_turn_refusals():
                if name != "buffer"]
     rows = tuple((line, minor, text_of(line)) for line, minor in
                  ((2, 7), (9, 127), (63, 1)))
-    worn = settled(1, rows, 2**64 - 1)
-    inputs = dict(worn._asdict(), keys=KEYS, page=0)
     bad_cells = [(refusal(25, first=line), "array",
-                  cell_bytes_at(line, 64, b"\x00")) for line in (2, 9, 63)]
-    peeled(check_refused, inputs, defects + [(refusal(31), "array",
-                                              bad_cells[0][2])])
-    check_refused(refusal(31), **inputs)
-    inputs.update(settled(1, rows, 2**64 - 2)._asdict())
-    peeled(check_refused, inputs, defects + bad_cells)
-    answer, after = turn_call(KEYS, 0, UNLIMITED, Module(
-        inputs["array"], inputs["control"], inputs["cache"]))
-    equal("turn to the last major", answer, Answer("done", 0, 23, 0, 0))
-    equal("another turn", turn_call(KEYS, 0, UNLIMITED, after)[0], refusal(31))
+                  cell_bytes_at(line, 64, bytes(8))) for line in (2, 9, 63)]
+    for family in (0, 1):
+        worn = settled(1, rows, 2**64 - 1, family)
+        inputs = dict(worn._asdict(), keys=KEYS, page=0)
+        peeled(check_refused, inputs, defects + [(refusal(31), "array",
+                                                  bad_cells[0][2])])
+        check_refused(refusal(31), **inputs)
+        inputs.update(settled(1, rows, 2**64 - 2, family)._asdict())
+        peeled(check_refused, inputs, defects + bad_cells)
+        answer, after = turn_call(KEYS, 0, UNLIMITED, Module(
+            inputs["array"], inputs["control"], inputs["cache"]))
+        equal("turn to the last major", answer, Answer("done", 0, 23, 0, 0))
+        equal("another turn", turn_call(KEYS, 0, UNLIMITED, after)[0],
+              refusal(31))
 
 
 def test_resumed_turns():
@@ -488,78 +553,108 @@ def test_resumed_turns():
           refusal(31))
 
 
-def two_pages():
+def two_pages(family=0):
     """Slot 2 is empty, and page 0's block is behind its data cells."""
-    return written(1, 0, 0, 0, 1, 64)
+    return written(1, 0, 0, 0, 1, 64, family=family)
 
 
-def pending_write():
-    return write_call(KEYS, 64, text_of(9), 3, two_pages())
+def pending_write(family=0):
+    return write_call(KEYS, 64, text_of(9), 3, two_pages(family))
+
+
+def late_refusal(wanted, keys, **parts):
+    """What a refused recovery tells and leaves, and that it is cut before."""
+    module = Module(**parts)
+    answer, after = recover_call(keys, UNLIMITED, module)
+    equal("recovery refusal", answer, wanted)
+    equal("cache after a refused recovery", after.cache, module.cache)
+    stores = model.stores_of_pending(module.control)[:wanted.stores]
+    equal("stores of a refused recovery", (after.array, after.control),
+          model.apply_stores(stores, module.array, module.control))
+    for allowance in range(wanted.stores):
+        equal("cut before a late refusal",
+              recover_call(keys, allowance, module)[0],
+              Answer("cut", 0, allowance, 0, 0))
 
 
 def test_recovery_refusals():
-    def check_refused(wanted, keys, **parts):
-        module = Module(**parts)
-        answer, after = recover_call(keys, UNLIMITED, module)
-        equal("recovery refusal", answer, wanted)
-        equal("cache after a refused recovery", after.cache, module.cache)
-        stores = model.stores_of_pending(module.control)[:wanted.stores]
-        equal("stores of a refused recovery", (after.array, after.control),
-              model.apply_stores(stores, module.array, module.control))
-        for allowance in range(wanted.stores):
-            equal("cut before a late refusal",
-                  recover_call(keys, allowance, module)[0],
-                  Answer("cut", 0, allowance, 0, 0))
-
-    answer, module = pending_write()
-    equal("pending write", answer, Answer("cut", 0, 3, 0, 0))
-    equal("cell that the pending stores overwrite",
-          [cell for cell, _ in model.queue_of(module.control)], [64])
     past_127 = counter_block(0, [0, 0, 0, 127] + [0] * 59 + [125])
-    peeled(check_refused, dict(module._asdict(), keys=KEYS), [
-        (refusal(2), "keys", longer),
-        (refusal(3), "control", short),
-        (refusal(21), "control", bytes_at(24, number8(527))),
-        (refusal(4), "array", short),
-        (refusal(5), "cache", short),
-        (refusal(27, 3, 2), "array",
-         cell_bytes_at(shadow_cell(1, 2), 0, number8(2))),
-        (refusal(27, 3, 4), "array",
-         cell_bytes_at(shadow_cell(1, 4), 0, number8(0))),
+    with_phase = [
         (refusal(28, 3, 0), "array", cell_bytes_at(0, 64, b"\xff")),
         (refusal(28, 3, 3), "array", cell_bytes_at(3, 64, b"\x04")),
         (refusal(32, 3, 3), "array", cell_bytes_at(512, 0, past_127)),
         (refusal(28, 3, 65), "array", cell_bytes_at(65, 64, b"\x04")),
         (refusal(32, 3, 127), "array", cell_bytes_at(
             513, 0, counter_block(0, [0] * 63 + [126]))),
-        (refusal(29, 3), "array", cell_bytes_at(519, 9, b"\x01")),
-    ])
-    equal("recovery without a defect",
-          recover_call(KEYS, UNLIMITED, module)[0],
-          Answer("done", 0, 3, 6, 0))
+    ]
+    without = [
+        (refusal(33, 3, 0), "array", cell_bytes_at(0, 64, bytes(8))),
+        (refusal(33, 3, 1), "array", lambda a: resealed(1, a, 1, 4)),
+        (refusal(33, 3, 3), "array", cell_bytes_at(512, 0, past_127)),
+        (refusal(33, 3, 65), "array", cell_bytes_at(65, 71, b"\x01")),
+        (refusal(33, 3, 127), "array", cell_bytes_at(
+            513, 0, counter_block(0, [0] * 63 + [1]))),
+    ]
+    for family, late in ((0, with_phase), (1, without)):
+        answer, module = pending_write(family)
+        equal("pending write", answer, Answer("cut", 0, 3, 0, 0))
+        equal("cell that the pending stores overwrite",
+              [cell for cell, _ in model.queue_of(module.control)], [64])
+        peeled(late_refusal, dict(module._asdict(), keys=KEYS), [
+            (refusal(2), "keys", longer),
+            (refusal(3), "control", short),
+            (refusal(21), "control", bytes_at(24, number8(527))),
+            (refusal(4), "array", short),
+            (refusal(5), "cache", short),
+            (refusal(27, 3, 2), "array",
+             cell_bytes_at(shadow_cell(1, 2), 0, number8(2))),
+            (refusal(27, 3, 4), "array",
+             cell_bytes_at(shadow_cell(1, 4), 0, number8(0))),
+            *late,
+            (refusal(29, 3), "array", cell_bytes_at(519, 9, b"\x01")),
+        ])
+        equal("recovery without a defect",
+              recover_call(KEYS, UNLIMITED, module)[0],
+              Answer("done", 0, 3, 6, 0))
 
 
 def with_stored(module, line, minor, phase):
     """The module with another stored minor and phase of a line."""
-    h = module.control[5]
-    cell = node_cell(h, 0, line // 64)
-    minors = list(minors_of(module.array[72 * cell:72 * cell + 64]))
-    minors[line % 64] = minor
-    array = cell_patched(module.array, cell, 0, counter_block(0, minors))
+    array = with_stored_minor(module.control[5], module.array, line, minor)
     return module._replace(array=cell_patched(array, line, 64, bytes([phase])))
+
+
+def with_tag(module, line, stored, minor):
+    """Without a phase byte: the module with another stored minor of a line,
+    and its cell that of a minor."""
+    h = module.control[5]
+    array = with_stored_minor(h, module.array, line, stored)
+    return module._replace(array=resealed(h, array, line, minor))
+
+
+def modules_to_damage(family):
+    """At each depth a module whose counter slots list these pages, and lines
+    of them in the sequence of recovery."""
+    for depth, listed in ((1, (4, 5, 2, 7)), (2, (4, 9, 2, 63)),
+                          (3, (508, 9, 2, 3))):
+        module = written(depth, *(64 * page + 9 for page in listed),
+                         family=family)
+        equal("recovery before damage", recover_call(KEYS, 0, module)[0],
+              Answer("done", 0, 0, 4, 0))
+        yield depth, module, [64 * page + place for page in listed
+                              for place in (0, 1, 30, 63)]
+        for line in (0, 63):
+            hurt = module._replace(array=cell_patched(
+                module.array, line, 64, b"\x04"))
+            equal("line %d of a page that is not listed" % line,
+                  recover_call(KEYS, 0, hurt)[0].kind, "done")
 
 
 def test_damaged_lines():
     """28 and 32 with the first line, by slot and then by line; the phase of
     a line comes before its minor."""
     phase, minor = (0, 4), (127, 2)
-    for depth, listed in ((1, (4, 5, 2, 7)), (2, (4, 9, 2, 63)),
-                          (3, (508, 9, 2, 3))):
-        module = written(depth, *(64 * page + 9 for page in listed))
-        equal("recovery before damage", recover_call(KEYS, 0, module)[0],
-              Answer("done", 0, 0, 4, 0))
-        in_sequence = [64 * page + place for page in listed
-                       for place in (0, 1, 30, 63)]
+    for depth, module, in_sequence in modules_to_damage(0):
         for place, line in enumerate(in_sequence):
             for later in in_sequence[place + 1:] + [None]:
                 for pair, number in ((phase, 28), (minor, 32)):
@@ -578,11 +673,140 @@ def test_damaged_lines():
                 hurt = with_stored(module, line, *good)
                 check("minor %d, phase %d" % good,
                       recover_call(KEYS, 0, hurt)[0].number in (0, 29))
-        for line in (0, 63):
-            hurt = module._replace(array=cell_patched(
-                module.array, line, 64, b"\x04"))
-            equal("line %d of a page that is not listed" % line,
-                  recover_call(KEYS, 0, hurt)[0].kind, "done")
+
+
+def test_damaged_tags():
+    """Without a phase byte: 33 with the first line, by slot and then by line;
+    where one candidate fits, the minor is brought forward to it."""
+    for depth, module, in_sequence in modules_to_damage(1):
+        for place, line in enumerate(in_sequence):
+            for later in in_sequence[place + 1:] + [None]:
+                hurt = with_tag(module, line, 0, 4)
+                if later is not None:
+                    hurt = with_tag(hurt, later, 5, 4)
+                equal("lines %d, %s of depth %d" % (line, later, depth),
+                      recover_call(KEYS, 0, hurt),
+                      (refusal(33, first=line), hurt))
+            for stored, minor in ((0, 4), (1, 0), (5, 4), (5, 9), (124, 128),
+                                  (125, 128), (127, 126), (127, 128)):
+                equal("minor %d, tag of %d" % (stored, minor), recover_call(
+                    KEYS, 0, with_tag(module, line, stored, minor))[0],
+                    refusal(33, first=line))
+            for stored, minor in ((0, 1), (0, 3), (5, 5), (5, 8), (124, 127),
+                                  (126, 127), (127, 127)):
+                hurt, page = with_tag(module, line, stored, minor), line // 64
+                check("minor %d, tag of %d" % (stored, minor),
+                      recover_call(KEYS, 0, hurt)[0].number in (0, 29))
+                block = model.array_node(depth, hurt.array, 0, page)
+                fault, forward = model.forwarded_block(
+                    KEYS, 1, page, block, model.page_cells(hurt.array, page))
+                equal("brought forward", (fault, minors_of(forward)[line % 64]),
+                      (None, minor))
+
+
+def with_tag_bits(bits, action):
+    model.set_tag_bits(bits)
+    try:
+        action()
+    finally:
+        model.set_tag_bits(64)
+
+
+def cell_that_fits(line, minor, wanted):
+    """A text, and its cell at a minor, that fits just these candidates of the
+    stored minor 0, where tags have few bits."""
+    for number in range(1 << 16):
+        text = number8(number) * 8
+        cell = model.data_cell(KEYS, 1, text, line, 0, minor)
+        if model.fitting(KEYS, cell, line, 0, 0) == wanted:
+            return text, cell
+
+
+def quiet_lines():
+    """Of each counter slot a line on whose page no line, being blank, fits
+    another candidate than 0."""
+    found = {}
+    for page in range(8):
+        if all(model.fitting(KEYS, bytes(72), line, 0, 0) == [0]
+               for line in range(64 * page, 64 * page + 64)):
+            found.setdefault(page % 4, 64 * page + 20)
+    return [found[slot] for slot in sorted(found)]
+
+
+def test_several_fit():
+    """34, with tags of few bits."""
+    with_tag_bits(10, pairs_that_fit)
+    with_tag_bits(10, several_lines)
+    with_tag_bits(10, several_pending)
+    with_tag_bits(3, blank_that_fits)
+
+
+def pairs_that_fit():
+    """Candidates that fit beside the right one, and those that do not."""
+    line = quiet_lines()[0]
+    for minor, wanted in ((1, [1]), (1, [1, 2]), (1, [1, 3]), (2, [2]),
+                          (2, [1, 2]), (2, [2, 3]), (3, [1, 3]), (3, [3])):
+        module = written(1, *[line] * (minor - 1), family=1)
+        text, _ = cell_that_fits(line, minor, wanted)
+        _, module = write_call(KEYS, line, text, UNLIMITED, module)
+        junk = module._replace(cache=b"\x77" * cache_length(1))
+        equal("text at %d that fits %s" % (minor, wanted),
+              recover_call(KEYS, 0, junk), (refusal(34, first=line), junk)
+              if len(wanted) > 1 else recover_call(KEYS, 0, module))
+        equal("sum at %d that fits %s" % (minor, wanted),
+              recover_call(KEYS, 0, junk)[0].first,
+              line if len(wanted) > 1 else minor)
+        equal("lines in doubt",
+              model.lines_in_doubt(KEYS, junk, {line: minor}),
+              [line] if len(wanted) > 1 else [])
+
+
+def several_lines():
+    """Lines on the pages of three slots, each of which fits one candidate,
+    two or none: the first that does not fit one is told."""
+    places = quiet_lines()[:3]
+    equal("lines on pages of different slots", len(places), 3)
+    module = written(1, *places, family=1)
+    kinds = {0: (1, [1]), 33: (4, []), 34: (1, [1, 2])}
+    for chosen in product(kinds, repeat=3):
+        array = module.array
+        for line, kind in zip(places, chosen):
+            _, cell = cell_that_fits(line, *kinds[kind])
+            array = cell_patched(array, line, 0, cell)
+        faults = [(kind, line) for line, kind in zip(places, chosen) if kind]
+        hurt = module._replace(array=array)
+        wanted = refusal(faults[0][0], first=faults[0][1]) if faults else (
+            Answer("done", 0, 0, 3, 0))
+        equal("lines that end it: %s" % faults,
+              recover_call(KEYS, 0, hurt)[0], wanted)
+
+
+def several_pending():
+    """The cell that fits two candidates is pending; on an open page it is
+    not looked at."""
+    line, other = quiet_lines()[:2]
+    module = written(1, line, other, family=1)
+    text, _ = cell_that_fits(line, 2, [2, 3])
+    answer, cut = write_call(KEYS, line, text, 2, module)
+    equal("pending write", answer, Answer("cut", 0, 2, 0, 0))
+    late_refusal(refusal(34, 3, line), KEYS, **cut._asdict())
+    equal("lines in doubt", model.lines_in_doubt(KEYS, cut, {line: 2,
+                                                             other: 1}), [line])
+    _, whole = write_call(KEYS, line, text, UNLIMITED, module)
+    for page, wanted in ((line // 64, Answer("done", 0, 0, 1, 0)),
+                         (other // 64, refusal(34, first=line))):
+        stored = opened(block_stored(1, whole, page), page, 1)
+        equal("page %d open" % page, recover_call(KEYS, 0, stored)[0], wanted)
+
+
+def blank_that_fits():
+    """A blank line whose zero cell fits a minor above 0 too."""
+    line = next(line for line in range(512) if model.fitting(
+        KEYS, bytes(72), line, 0, 0) != [0])
+    first = line // 64 * 64
+    module = read_call(KEYS, first, UNLIMITED, OUTPUT, formatted(1, 1))[1]
+    equal("blank line", recover_call(KEYS, 0, module)[0],
+          refusal(34, first=line))
 
 
 def test_list_refusals():
@@ -643,7 +867,7 @@ def test_bad_shadows():
 
 def test_bad_control_records():
     base = two_pages()
-    for offset, piece in ((3, b"J"), (4, b"\x00"), (4, b"\x02"),
+    for offset, piece in ((3, b"J"), (3, b"M"), (0, b"NGIP"), (4, b"\x00"), (4, b"\x02"),
                           (5, b"\x00"), (5, b"\x04"), (6, b"\x00"),
                           (15, b"\x09"), (15, b"\xff")):
         module = base._replace(control=patched(base.control, offset, piece))
@@ -717,19 +941,41 @@ def test_open_page():
 
 def test_open_worn_page():
     """In a turn of worn lines a turned one has phase 1 and its old minor is
-    stored, which that phase would bring past 127."""
+    stored, which that phase would bring past 127; without a phase byte its
+    tag fits no candidate."""
     rows = tuple((line, 127, text_of(line)) for line in (64, 66, 127))
-    _, module = write_call(KEYS, 0, OUTPUT, UNLIMITED, settled(1, rows))
-    for allowance, pending in ((9, 0), (3, 4)):
-        answer, module = turn_call(KEYS, 1, allowance, module)
-        equal("cut turn of worn lines", answer,
-              Answer("cut", 0, allowance, 0, 0))
-        for turn, wanted in (
-                (module.control[664:], Answer("done", 0, pending, 1, 0)),
-                (bytes(17), refusal(32, pending, 64))):
-            control = module.control[:664] + turn
-            equal("recovery, page 1 open or not", recover_call(
-                KEYS, UNLIMITED, module._replace(control=control))[0], wanted)
+    for family, number in ((0, 32), (1, 33)):
+        _, module = write_call(KEYS, 0, OUTPUT, UNLIMITED,
+                               settled(1, rows, 0, family))
+        for allowance, pending in ((9, 0), (3, 4)):
+            answer, module = turn_call(KEYS, 1, allowance, module)
+            equal("cut turn of worn lines", answer,
+                  Answer("cut", 0, allowance, 0, 0))
+            for turn, wanted in (
+                    (module.control[664:], Answer("done", 0, pending, 1, 0)),
+                    (bytes(17), refusal(number, pending, 64))):
+                control = module.control[:664] + turn
+                equal("recovery, page 1 open or not", recover_call(
+                    KEYS, UNLIMITED, module._replace(control=control))[0],
+                    wanted)
+
+
+def test_open_page_without_phases():
+    """Without a phase byte: an open page's data cells are not read."""
+    module = opened(written(1, 0, 0, 0, 0, 64, 64, 129, family=1), 0, 1)
+    for line in (0, 1, 63):
+        module = module._replace(array=cell_patched(
+            module.array, line, 60, b"\xee" * 12))
+    answer, after = recover_call(KEYS, 0, module)
+    equal("recovery of an open page", answer, Answer("done", 0, 0, 3, 0))
+    equal("slot of an open page", after.cache[:73],
+          number8(1) + b"\x01" + counter_block(0, [4] + [0] * 63))
+    equal("recovery of the same page, not open",
+          recover_call(KEYS, 0, opened(module, 2, 1))[0], refusal(33))
+    for line in (64, 127, 128, 191):
+        equal("damage on another page",
+              recover_call(KEYS, 0, with_tag(module, line, 0, 4))[0],
+              refusal(33, first=line))
 
 
 def test_bad_caches():
@@ -756,7 +1002,9 @@ def test_c_side():
             (Answer("cut", 0, 4, 0, 0), 2, (4, 0, 0)),
             (Answer("refused", 24, 0, 2, 63), 124, (0, 2, 63)),
             (Answer("refused", 27, 5, 4, 0), 127, (5, 4, 0)),
-            (Answer("refused", 32, 5, 511, 0), 132, (5, 511, 0))):
+            (Answer("refused", 32, 5, 511, 0), 132, (5, 511, 0)),
+            (Answer("refused", 33, 3, 64, 0), 133, (3, 64, 0)),
+            (Answer("refused", 34, 0, 1, 0), 134, (0, 1, 0))):
         equal("C side of %r" % (answer,), for_c(full, answer),
               (code, b"".join(number8(n) for n in numbers)))
         for length in (0, 23, 25):
@@ -863,12 +1111,13 @@ JUNK = b"\xc3" * cache_length(1)
 
 def test_forbidden_lists():
     forbidden = {
-        "done format": [("format", KEYS, 1)],
+        "done format": [("format", KEYS, 1, 0)],
+        "done format of the other family": [("format", KEYS, 1, 1)],
         "read after a cut": [("power_cut", JUNK),
                              ("read", KEYS, 0, UNLIMITED, OUTPUT)],
         "list after a cut": [WRITE, CUT_WRITE, ("list", bytes(32))],
         "refused format after a cut": [("power_cut", JUNK),
-                                       ("format", KEYS, 0)],
+                                       ("format", KEYS, 0, 0)],
         "write after a cut recovery": [WRITE, CUT_WRITE, ("recover", KEYS, 1),
                                        WRITE],
         "cache length": [("power_cut", JUNK + b"\x00")],
@@ -887,18 +1136,24 @@ def test_forbidden_lists():
         "other keys, done turn": [WRITE, ("turn", OTHER_PAD, 0, UNLIMITED)],
         "unknown event": [("erase", KEYS)],
         "page": [("turn", KEYS, 2**64, 0)],
+        "family": [("format", KEYS, 1, 2**64)],
         "allowance": [("recover", KEYS, 2**64)],
     }
     for what, events in forbidden.items():
-        raises_value_error(what, lambda e=events: run_history(KEYS, 1, e))
+        for family in (0, 1):
+            raises_value_error(what, lambda e=events, f=family: run_history(
+                KEYS, 1, e, f))
     raises_value_error("depth", lambda: run_history(KEYS, 4, []))
+    raises_value_error("no family", lambda: run_history(KEYS, 1, [], 2))
     raises_value_error("keys", lambda: run_history(KEYS[:47], 1, []))
 
 
 def test_allowed_list():
     events = [
-        WRITE, ("format", KEYS, 3), ("format", b"", 1),
-        ("format", OTHER_TAG, 2**64 - 1), ("list", b""),
+        WRITE, ("format", KEYS, 3, 0), ("format", b"", 1, 0),
+        ("format", OTHER_TAG, 2**64 - 1, 0), ("format", KEYS, 1, 2),
+        ("format", KEYS, 3, 1), ("format", KEYS[:47], 1, 1),
+        ("format", OTHER_TAG, 1, 2**64 - 1), ("list", b""),
         ("read", b"k", 0, 0, OUTPUT), ("read", OTHER_TAG, 0, 0, OUTPUT),
         ("write", OTHER_TAG, 64, text_of(3), 0),
         ("turn", OTHER_TAG, 0, 0), ("turn", KEYS + KEYS, 0, 0),
@@ -907,7 +1162,9 @@ def test_allowed_list():
         ("recover", KEYS[:5], 0), ("power_cut", JUNK), ("recover", KEYS, 1),
         ("power_cut", JUNK), ("recover", KEYS, UNLIMITED), ("list", bytes(32)),
         ("recover", KEYS, 0)]
-    attempt("allowed list", lambda: run_history(KEYS, 1, events))
+    for family in (0, 1):
+        attempt("allowed list of family %d" % family,
+                lambda f=family: run_history(KEYS, 1, events, f))
 
 
 def tampered(change):
@@ -958,6 +1215,68 @@ def test_checker_bites():
             check("tampering not seen: " + change.__name__, False)
 
 
+def recovery_after(change, family):
+    """A recovery as the next event after a change to module or book."""
+    history = History(KEYS, 1, family)
+    for line in (0, 0, 256, 0):
+        history.step(("write", KEYS, line, text_of(line + 1), UNLIMITED))
+    change(history)
+    return history.step(("recover", KEYS, UNLIMITED))[0]
+
+
+def test_refused_recoveries_bite():
+    """Of the refusals of a recovery the rule leaves 34 open, and only where
+    another candidate than the count fits."""
+    def other_cell(history):
+        history.module = history.module._replace(
+            array=cell_patched(history.module.array, 256, 0, bytes(70) + b"ab"))
+
+    def other_shadow(history):
+        history.module = history.module._replace(
+            array=cell_patched(history.module.array, shadow_cell(1, 1), 0,
+                               number8(1)))
+
+    for change, family in ((other_cell, 1), (other_shadow, 0),
+                           (other_shadow, 1)):
+        try:
+            recovery_after(change, family)
+        except AssertionError:
+            check("refused recovery seen", True)
+        else:
+            check("refused recovery not seen: " + change.__name__, False)
+    with_tag_bits(10, refused_in_doubt)
+
+
+def refused_in_doubt():
+    """34 with another candidate beside the count is allowed, and what is not
+    awaited before is not awaited after; the list goes on."""
+    line, other = quiet_lines()[:2]
+    text, _ = cell_that_fits(line, 1, [1, 2])
+    history = History(KEYS, 1, 1)
+    history.step(("write", KEYS, other, text_of(1), UNLIMITED))
+    history.step(("write", KEYS, line, text, UNLIMITED))
+    wanted = refusal(34, first=line)
+    equal("recovery in doubt", history.step(("recover", KEYS, 0))[0], wanted)
+    equal("a read goes on", history.step(
+        ("read", KEYS, line, UNLIMITED, OUTPUT))[1], text)
+    clear, _ = cell_that_fits(line, 2, [2])
+    for again, events in ((False, []), (True, [("power_cut", JUNK)]),
+                          (True, [("write", KEYS, line, text, 1)])):
+        part = history.copy()
+        for event in events:
+            part.step(event)
+        equal("recovery in doubt", part.step(("recover", KEYS, UNLIMITED))[0],
+              wanted)
+        equal("a recovery is awaited", part.after_cut, again)
+        write = ("write", KEYS, line, clear, UNLIMITED)
+        if again:
+            raises_value_error("a write", lambda: part.step(write))
+        else:
+            part.step(write)
+            equal("recovery after it", part.step(("recover", KEYS, 0))[0].kind,
+                  "done")
+
+
 def random_cache(rng, history):
     length = cache_length(history.depth)
     style = rng.randrange(3)
@@ -990,17 +1309,19 @@ def random_event(rng, history, hot):
     line = rng.choice(hot)
     if rng.random() < 0.1:
         line = rng.randrange(lines(history.depth))
-    if history.open is not None and rng.random() < 0.2:
+    if history.open is not None and rng.random() < 0.4:
         line = 64 * history.open + rng.randrange(3)
     if rng.random() < 0.04:
         line = lines(history.depth) + rng.choice((0, 1, 2**63))
     length = 64 if rng.random() < 0.96 else rng.choice((0, 63, 65))
     content = bytes([rng.randrange(256)]) * length
     if style < 0.1:
-        if allowance != UNLIMITED:
+        if rng.random() < 0.6:
             allowance = rng.randrange(40)
-        page = line // 64 if history.open is None or rng.random() < 0.3 else (
-            history.open)
+        page = line // 64
+        if history.open is not None and rng.random() < 0.9:
+            other = rng.choice((0, 0, 1, 5))
+            page = (history.open + other) % pages(history.depth)
         return ("turn", keys, page, allowance)
     if style < 0.55:
         return ("write", keys, line, content, allowance)
@@ -1012,7 +1333,8 @@ def random_event(rng, history, hot):
         return ("list", bytes(32 if rng.random() < 0.8 else 31))
     if style < 0.92:
         return ("format", random_keys(rng) if rng.random() < 0.5 else KEYS,
-                rng.choice((0, 1, 2, 3, 4, 2**64 - 1)))
+                rng.choice((0, 1, 2, 3, 4, 2**64 - 1)),
+                rng.choice((0, 1, 0, 1, 2, 255, 2**64 - 1)))
     return ("power_cut", random_cache(rng, history))
 
 
@@ -1021,7 +1343,7 @@ def check_step(history, before, event, answer, output):
     kind = event[0]
     if kind == "power_cut":
         return
-    if answer.kind == "refused":
+    if answer.kind == "refused" and answer.stores == 0:
         model.claim(history.module == before, "module changed by a refusal")
     if answer.kind == "cut":
         model.claim(history.module.cache == before.cache, "cache at a cut")
@@ -1043,10 +1365,11 @@ def check_step(history, before, event, answer, output):
                     "listed pages")
 
 
-def random_history(seed, depth, length, hot_lines):
+def random_history(seed, depth, family, length, hot_lines):
     rng = random.Random(seed)
-    history = History(KEYS, depth)
-    hot = [64 * rng.randrange(pages(depth)) + rng.randrange(3)
+    history = History(KEYS, depth, family)
+    hot_pages = rng.sample(range(pages(depth)), 5)
+    hot = [64 * rng.choice(hot_pages) + rng.randrange(3)
            for _ in range(hot_lines)]
     events = []
     seen = {}
@@ -1072,7 +1395,7 @@ def random_history(seed, depth, length, hot_lines):
         history.check_recovered(answer.first, range(lines(1)))
     events += [("power_cut", bytes(cache_length(depth))),
                ("recover", KEYS, UNLIMITED)]
-    again = run_history(KEYS, depth, events)
+    again = run_history(KEYS, depth, events, family)
     model.claim((again.counts, again.texts, again.turns, again.open)
                 == (history.counts, history.texts, history.turns,
                     history.open), "book of the same list")
@@ -1080,14 +1403,21 @@ def random_history(seed, depth, length, hot_lines):
 
 
 def test_random_histories():
+    random_histories(0, ((1, 6, 120, 10), (2, 4, 100, 10), (3, 1, 60, 8)),
+                     "recover refused 29")
+    random_histories(1, ((1, 6, 120, 10), (2, 4, 100, 10), (3, 1, 60, 8)),
+                     "recover refused 33")
+
+
+def random_histories(family, rows, with_other_keys):
     seen = {}
-    for depth, runs, length, hot in ((1, 6, 120, 10), (2, 4, 100, 10),
-                                     (3, 1, 60, 8)):
+    for depth, runs, length, hot in rows:
         for seed in range(runs):
             what = "random history %d at depth %d" % (seed, depth)
 
             def action(seed=seed, depth=depth, length=length, hot=hot):
-                part = random_history(1000 * depth + seed, depth, length, hot)
+                part = random_history(1000 * depth + seed, depth, family,
+                                      length, hot)
                 for name, count in part.items():
                     seen[name] = seen.get(name, 0) + count
 
@@ -1098,7 +1428,7 @@ def test_random_histories():
                  "write refused 30", "recover done", "recover cut", "list done",
                  "power_cut", "write refused 2", "write refused 6",
                  "write refused 7", "read refused 2", "read refused 6",
-                 "read refused 7", "recover refused 2", "recover refused 29",
+                 "read refused 7", "recover refused 2", with_other_keys,
                  "list refused 7", "format refused 1", "format refused 2",
                  "format refused 4"):
         check("random histories have no %s" % name, seen.get(name, 0) > 0)
@@ -1124,9 +1454,9 @@ def every_recovery(history, rounds):
         allowance += 1
 
 
-def every_cut(depth, first, other, rounds):
+def every_cut(depth, family, first, other, rounds):
     """A write that evicts and reaches the stop-loss, cut at every store."""
-    history = History(KEYS, depth)
+    history = History(KEYS, depth, family)
     for line in (first, first, first, other):
         history.step(("write", KEYS, line, text_of(line + 1), UNLIMITED))
     last = ("write", KEYS, first, text_of(200))
@@ -1161,9 +1491,10 @@ def every_cut(depth, first, other, rounds):
 
 
 def test_every_cut():
-    attempt("every cut at depth 1", lambda: every_cut(1, 256, 0, 2))
-    attempt("every cut at depth 2", lambda: every_cut(2, 0, 1024, 1))
-    attempt("every cut at depth 3", lambda: every_cut(3, 0, 8192, 0))
+    attempt("every cut at depth 1", lambda: every_cut(1, 0, 256, 0, 2))
+    attempt("every cut at depth 2", lambda: every_cut(2, 0, 0, 1024, 1))
+    attempt("every cut at depth 3", lambda: every_cut(3, 0, 0, 8192, 0))
+    attempt("every cut, family 1", lambda: every_cut(1, 1, 256, 0, 1))
 
 
 def every_cut_of_a_turn(before, rounds, again):
@@ -1198,9 +1529,10 @@ def every_cut_of_a_turn(before, rounds, again):
 
 
 def test_every_cut_of_a_turn():
-    for others in ((), (257,), (257, 319)):
-        def action(others=others):
-            history = History(KEYS, 1)
+    for others, family in (((), 0), ((257,), 0), ((257, 319), 0), ((), 1),
+                           ((257,), 1)):
+        def action(others=others, family=family):
+            history = History(KEYS, 1, family)
             for line in (256, 256, *others, 0):
                 history.step(("write", KEYS, line, text_of(line), UNLIMITED))
             every_cut_of_a_turn(history, 1, 1)
@@ -1210,8 +1542,8 @@ def test_every_cut_of_a_turn():
 def test_worn_line():
     """A line up to its last minor, with cuts on the way; then its page is
     turned."""
-    def action():
-        history = History(KEYS, 1)
+    def action(family):
+        history = History(KEYS, 1, family)
         for count in range(127):
             history.step(("write", KEYS, 70, text_of(count), UNLIMITED))
             if count % 5 == 0:
@@ -1229,22 +1561,27 @@ def test_worn_line():
         history.step(("power_cut", bytes(cache_length(1))))
         answer, _ = history.step(("recover", KEYS, UNLIMITED))
         model.claim(answer.first == 1, "sum after a turn")
-    attempt("worn line", action)
+    for family in (0, 1):
+        attempt("worn line of family %d" % family, lambda f=family: action(f))
 
 
 def main():
-    for test in (test_primitives, test_arithmetic, test_bench, test_format,
+    for test in (test_primitives, test_arithmetic, test_candidates, test_bench,
+                 test_format,
                  test_bytes_of_a_write, test_bytes_of_a_turn,
                  test_turn_batches, test_turn_again, test_dirty_slots,
                  test_format_refusals, test_read_refusals,
                  test_write_refusals, test_turn_refusals,
                  test_resumed_turns, test_recovery_refusals,
-                 test_damaged_lines, test_list_refusals, test_bad_top,
+                 test_damaged_lines, test_damaged_tags, test_several_fit,
+                 test_list_refusals, test_bad_top,
                  test_bad_nodes, test_bad_shadows, test_bad_control_records,
-                 test_open_sections, test_open_page, test_open_worn_page,
+                 test_open_sections, test_open_page,
+                 test_open_page_without_phases, test_open_worn_page,
                  test_bad_caches, test_c_side, test_stores_one_by_one,
                  test_turn_stores_one_by_one, test_batch_bound,
                  test_forbidden_lists, test_allowed_list, test_checker_bites,
+                 test_refused_recoveries_bite,
                  test_random_histories, test_every_cut,
                  test_every_cut_of_a_turn, test_worn_line):
         try:

@@ -1,5 +1,5 @@
-"""examples/recorder.c with the static library that NV_ARCHIVE names: a recorder that is killed at any time, a supply that
-fails at any store, and what the example must find out: libraries that lie, wrong keys, damage, an older copy."""
+"""examples/recorder.c with the static library that NV_ARCHIVE names, on modules of both families: a recorder that is killed at any
+time, a supply that fails at any store, and what the example must find out: libraries that lie, wrong keys, damage, an older copy."""
 
 import os
 import random
@@ -15,7 +15,10 @@ from library import Library, Session, Tally
 TOP = os.path.join(os.path.dirname(os.path.abspath(__file__)), "..")
 INCLUDE = os.path.join(TOP, "include")
 STRICT = ("-O2", "-Wall", "-Wextra", "-Wpedantic", "-Werror")
-SEEDS = range(1, 41)
+SEEDS = {0: range(1, 41), 1: range(41, 61)}  # of each family
+KILLS = {0: 200, 1: 80}  # at least, and what they must find
+FOUND = {0: {"pending": 2, "open": 3, "boots": 1, "records": 5000, "turns": 10},
+         1: {"pending": 2, "open": 1, "boots": 1, "records": 2000, "turns": 4}}
 PASS = 882  # records until a data row is written again
 FOREVER = str(2**64 - 1)
 
@@ -98,8 +101,8 @@ def changed(raw, at, piece):
 class Place:
     """A recorder's file and its witness, new."""
 
-    def __init__(self, tally, program, work):
-        self.tally, self.program = tally, program
+    def __init__(self, tally, program, work, family=0):
+        self.tally, self.program, self.family = tally, program, family
         self.file, self.witness = os.path.join(work, "module"), os.path.join(work, "witness")
         self.format()
 
@@ -108,7 +111,8 @@ class Place:
             if os.path.exists(path):
                 os.remove(path)
         store(self.witness, bytes(8))
-        self.expect(0, "format", self.file)
+        self.expect(0, "format", self.file, *(("1",) if self.family else ()))
+        self.tally.check(content(self.file)[CONTROL_AT:].startswith(model.MARKS[self.family]), "the family of a format")
 
     def record(self, records):
         self.expect(0, "run", self.file, str(records), self.witness)
@@ -150,10 +154,10 @@ def kill(place, delay):
     return content(place.file)
 
 
-def kills(tally, program, work):
-    place, rng = Place(tally, program, work), random.Random(20261117)
+def kills(tally, program, work, family):
+    place, rng = Place(tally, program, work, family), random.Random(20261117)
     seen = dict.fromkeys(("kills", "boots", "pending", "open", "marked", "ahead", "torn", "records", "turns"), 0)
-    while seen["kills"] < 200 or seen["pending"] < 2 and seen["kills"] < 800:
+    while seen["kills"] < KILLS[family] or seen["pending"] < 2 and seen["kills"] < 800:
         before, turns = place.answered(), turns_finished(content(place.file))
         raw = kill(place, rng.uniform(0, 0.003 if rng.randrange(4) == 0 else 0.02))
         answered = place.answered()
@@ -174,26 +178,27 @@ def kills(tally, program, work):
             place.format()
             continue
         tally.check(status == 0, "after kill %d: status %d: %s" % (seen["kills"], status, fault))
-    print("recorder: killed %(kills)d times, %(boots)d before the first record of a run: %(pending)d found a batch pending, "
-          "%(open)d a page open, %(marked)d the mark of a turn, %(ahead)d a record that was not yet answered, %(torn)d a torn "
-          "commit; %(records)d records, %(turns)d turns finished" % seen)
-    for what, least in (("pending", 2), ("open", 3), ("boots", 1), ("records", 5000), ("turns", 10)):
-        tally.check(seen[what] >= least, "kills: only %d %s" % (seen[what], what))
+    print("recorder: family %d: " % family
+          + "killed %(kills)d times, %(boots)d before the first record of a run: %(pending)d found a batch pending, "
+            "%(open)d a page open, %(marked)d the mark of a turn, %(ahead)d a record that was not yet answered, %(torn)d a torn "
+            "commit; %(records)d records, %(turns)d turns finished" % seen)
+    for what, least in FOUND[family].items():
+        tally.check(seen[what] >= least, "family %d: kills: only %d %s" % (family, seen[what], what))
 
 
 # ---- A supply that fails at any store ----
 
-def seeds(tally, program, file):
+def seeds(tally, program, file, family):
     totals = [0] * 6
-    for seed in SEEDS:
-        status, said, fault = run(program, "try", "%s.%d" % (file, seed), str(seed))
+    for seed in SEEDS[family]:
+        status, said, fault = run(program, "try", "%s.%d" % (file, seed), str(seed), *(("1",) if family else ()))
         tally.check(status == 0 and not fault, "recorder with seed %d: status %d %s" % (seed, status, fault))
         told = re.search(r"(\d+) turns of a worn row's page begun, (\d+) times resumed\n"
                          r"recorder: power failed (\d+) times in writes, (\d+) in reads, (\d+) in turns, (\d+) in recoveries", said)
         tally.check(told and all(int(n) >= 5 for n in told.groups()), "recorder with seed %d: %s" % (seed, said))
         totals = [a + int(b) for a, b in zip(totals, told.groups())] if told else totals
-    print("recorder: %d runs, %d turns begun, %d times resumed, power failed %d times in writes, %d in reads, %d in turns, "
-          "%d in recoveries" % (len(SEEDS), *totals))
+    print("recorder: family %d: %d runs, %d turns begun, %d times resumed, power failed %d times in writes, %d in reads, %d in "
+          "turns, %d in recoveries" % (family, len(SEEDS[family]), *totals))
 
 
 # ---- Lies ----
@@ -213,7 +218,7 @@ def lying_program(tally, archive, work, call, what, body):
 def liars(tally, program, archive, work):
     for i, (call, what, body) in enumerate(LIARS):
         lying = lying_program(tally, archive, work, call, what, body)
-        status, _, fault = run(lying, "try", os.path.join(work, "lie.%d" % i), "1")
+        status, _, fault = run(lying, "try", os.path.join(work, "lie.%d" % i), "1", str(i % 2))
         tally.check(status == 1 and fault.startswith("recorder: "), "not found out: %s (status %d)" % (what, status))
         print("recorder: finds out %s: %s" % (what, fault.split("\n")[0]))
         if what not in SHOWN_IN_RUNS:
@@ -247,10 +252,10 @@ def turn_cut(raw, library, page, stores):
     return file_of(raw, session, 1)
 
 
-def wrong_keys(tally, program, work, library):
+def wrong_keys(tally, program, work, library, family):
     """A byte of the pad keys: the check row ends the boot, and nothing is stored but by recovery and the read of that row.
     A byte of the tag keys: the recovery is refused."""
-    place = Place(tally, program, work)
+    place = Place(tally, program, work, family)
     place.record(PASS + 118)
     whole = content(place.file)
     cut = [raw for raw in (turn_cut(whole, library, 3, stores) for stores in range(50, 60)) if is_open(raw)]
@@ -268,16 +273,16 @@ def wrong_keys(tally, program, work, library):
                 store(place.file, raw[:MARK_AT] + content(place.file)[MARK_AT:])
                 place.expect(0, "check", place.file, place.witness)
             else:
-                place.expect(status, "run", place.file, "0", saying="recovery gave 129 ")
+                place.expect(status, "run", place.file, "0", saying="recovery gave %d " % (129, 133)[family])
         store(place.file, raw)
         place.expect(0, "run", place.file, "500", place.witness)
         place.expect(0, "check", place.file, place.witness)
         store(place.witness, model.number8(PASS + 118))
 
 
-def torn_commits(tally, program, work, library):
+def torn_commits(tally, program, work, library, family):
     """Inside the commit of a turn: the open page's lines without the count. With the mark that is told apart."""
-    place = Place(tally, program, work)
+    place = Place(tally, program, work, family)
     place.record(PASS)
     whole = content(place.file)
     section = slice(CONTROL_AT + model.TURN_AT, ARRAY_AT)
@@ -298,15 +303,25 @@ def torn_commits(tally, program, work, library):
             tally.check(content(place.file)[MARK_AT] == 0, "a boot that was good left the mark")
 
 
-def damage(tally, program, work):
-    place = Place(tally, program, work)
+def listed_pages(raw):
+    """The pages that the shadow lists."""
+    owners = (model.number_at(raw, ARRAY_AT + model.CELL * model.shadow_cell(1, slot)) for slot in range(model.COUNTER_SLOTS))
+    return [owner - 1 for owner in owners if owner]
+
+
+def damage(tally, program, work, family):
+    place = Place(tally, program, work, family)
     place.record(300)
     older = content(place.file)
     place.record(300)
     raw = content(place.file)
+    tally.check(4 in listed_pages(raw) and 1 not in listed_pages(raw), "listed are pages %s" % listed_pages(raw))
+    unlisted, listed = (changed(raw, ARRAY_AT + model.CELL * line, b"\xa5" * 8) for line in (65, 257))
+    found = ("read gave 125 (the line's data cell has", "recovery gave 133 (the line's data cell fits no counter), place 257, 0\n")
     for what, other, status, saying in (
-            ("a data cell", changed(raw, ARRAY_AT + model.CELL * 65, b"\xa5" * 8), 1, "read gave 125 (the line's data cell"),
-            ("the same, marked", changed(changed(raw, ARRAY_AT + model.CELL * 65, b"\xa5" * 8), MARK_AT, b"\1"), 3, "place 65, 0\n"),
+            ("a data cell", unlisted, 1, "read gave 125 (the line's data cell has"),
+            ("the same, marked", changed(unlisted, MARK_AT, b"\1"), 3, "place 65, 0\n"),
+            ("a data cell of a listed page", listed, 1, found[family]),
             ("no module", raw[:CONTROL_AT] + bytes(len(raw) - CONTROL_AT), 1, "recovery gave 121 (the control record"),
             ("a cut file", raw[:-1], 1, "not of this recorder"),
             ("an older copy", older, 1, "the last record is 300, but 600 was")):
@@ -317,7 +332,7 @@ def damage(tally, program, work):
     store(place.file, raw)
     place.expect(0, "check", place.file, place.witness)
     session = session_on(raw, Library())
-    session.make("format", depth=1)
+    session.format(family)
     store(place.file, file_of(raw, session, 0))
     place.expect(1, "run", place.file, "1", saying="the check row is blank")
 
@@ -328,14 +343,16 @@ def command_line(tally, program, work):
     place = Place(tally, program, work)
     place.record(10)
     raw, absent = content(place.file), os.path.join(work, "none", "module")
-    place.expect(1, "format", place.file, saying="exists, and format would destroy what it holds")
-    place.expect(1, "try", place.file, "1", saying="exists, and format would destroy what it holds")
+    for words in (("format", place.file), ("format", place.file, "1"), ("try", place.file, "1"), ("try", place.file, "1", "0")):
+        place.expect(1, *words, saying="exists, and format would destroy what it holds")
     for words in (("format", absent), ("run", absent), ("check", absent), ("try", absent, "1"),
                   ("check", place.file, os.path.join(work, "no witness"))):
         place.expect(1, *words, saying="No such file or directory")
-    for words in ((), ("format",), ("format", place.file, "1"), ("run",), ("run", place.file, "x"), ("run", place.file, "-1"),
-                  ("run", place.file, "2" * 20), ("run", place.file, "1", place.witness, "1"), ("check",),
-                  ("check", place.file, place.witness, "1"), ("try", place.file), ("try", place.file, "1 "), ("look", place.file)):
+    for words in ((), ("format",), ("format", place.file, "2"), ("format", place.file, ""), ("format", place.file, "1", "1"), ("run",),
+                  ("run", place.file, "x"), ("run", place.file, "-1"), ("run", place.file, "2" * 20),
+                  ("run", place.file, "1", place.witness, "1"), ("check",), ("check", place.file, place.witness, "1"),
+                  ("try", place.file), ("try", place.file, "1 "), ("try", place.file, "1", "2"), ("try", place.file, "1", "1", "1"),
+                  ("look", place.file)):
         status, said, fault = run(program, *words)
         tally.check(status == 2 and not said and fault.startswith("usage: ") and fault.count("\n") == 1,
                     "recorder %s: status %d, %s" % (" ".join(words), status, fault))
@@ -361,12 +378,13 @@ def main():
             tally.check(built, "recorder.c as C99: %s" % said)
             if not built:
                 tally.finish()
-        kills(tally, program, work)
-        seeds(tally, program, os.path.join(work, "try"))
+        for family in model.FAMILIES:
+            kills(tally, program, work, family)
+            seeds(tally, program, os.path.join(work, "try"), family)
+            wrong_keys(tally, program, work, library, family)
+            torn_commits(tally, program, work, library, family)
+            damage(tally, program, work, family)
         liars(tally, program, archive, work)
-        wrong_keys(tally, program, work, library)
-        torn_commits(tally, program, work, library)
-        damage(tally, program, work)
         command_line(tally, program, work)
     tally.finish()
 

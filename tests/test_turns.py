@@ -1,12 +1,13 @@
 """A cut after every store of a turn and recovery from each, cut too; then the turn resumed, cut again and resumed again.
 
-Pages with 0, 1, 2, 3 and 64 written lines at each depth, their path cached or not. Each call is held to the model, and what
-stands after each recovery to the book. Of a page with 64 lines, and at depths 2 and 3, second cuts are drawn, not all.
-An argument is another seed.
+Pages with 0, 1, 2, 3 and 64 written lines at each depth, their path cached or not; in family 1 at depth 3 some of these. Each
+call is held to the model, and what stands after each recovery to the book. Of a page with 64 lines, and at depths 2 and 3, second
+cuts are drawn, not all. An argument is another seed.
 """
 
 import random
 import sys
+from itertools import product
 
 import model
 import states
@@ -22,11 +23,11 @@ PLACES = {0: (), 1: (5,), 2: (0, 63), 3: (1, 30, 62), 64: tuple(range(64))}
 class Turns:
     """Turns of one page of a module in the library, and the book of what was done to it."""
 
-    def __init__(self, depth, count, cached, seed):
-        self.depth = depth
+    def __init__(self, depth, family, count, cached, seed):
+        self.depth, self.family = depth, family
         self.page = 4 if depth == 1 else 2 * 8**(depth - 1)
         self.count = count
-        self.what = "depth %d, %d lines, path %s" % (depth, count, "cached" if cached else "missing")
+        self.what = "depth %d, family %d, %d lines, path %s" % (depth, family, count, "cached" if cached else "missing")
         self.rng = random.Random(seed)
         self.session = Session(Library(), depth, KEYS)
         self.tally = Tally("turns")
@@ -35,7 +36,7 @@ class Turns:
 
     def prepare(self, cached):
         """A worn line, others at different minors; a dirty page that takes the slots of the path, or one that leaves it."""
-        self.session.make("format", depth=self.depth)
+        self.session.format(self.family)
         self.book = Book()
         if cached:
             self.write(5)
@@ -152,26 +153,32 @@ class Turns:
 
 
 def work(job):
-    depth, count, cached, seed = job
-    turns = Turns(depth, count, cached, seed)
+    turns = Turns(*job)
     turns.run()
     turns.tally.check(turns.session.guards_hold(), "guard bytes")
-    return depth, turns.cuts, turns.recoveries, turns.finished, turns.most, turns.tally.passed, turns.tally.failed
+    return turns.depth, turns.family, turns.cuts, turns.recoveries, turns.finished, turns.most, turns.tally.passed, turns.tally.failed
+
+
+def drawn_jobs(seed):
+    for count in reversed(COUNTS):
+        for depth in reversed(states.DEPTHS):
+            for family, cached in product(model.FAMILIES, (True, False)):
+                if depth < 3 or family == 0 or (count, cached) in ((1, False), (2, True), (3, False)):
+                    yield depth, family, count, cached, seed + 10 * depth + cached
 
 
 def main():
     seed = int(sys.argv[1], 0) if len(sys.argv) > 1 else 20261115
     tally = Tally("turns")
-    jobs = [(depth, count, cached, seed + 10 * depth + cached)
-            for count in reversed(COUNTS) for depth in reversed(states.DEPTHS) for cached in (True, False)]
-    sums = {depth: [0, 0, 0, 0] for depth in states.DEPTHS}
-    for depth, *counts, most, passed, failed in in_parallel(work, jobs):
+    sums = {job: [0, 0, 0, 0] for job in product(states.DEPTHS, model.FAMILIES)}
+    for depth, family, *counts, most, passed, failed in in_parallel(work, drawn_jobs(seed)):
         tally.add(passed, failed)
-        sums[depth] = [a + b for a, b in zip(sums[depth], counts)] + [max(most, sums[depth][3])]
-    for depth, (cuts, recoveries, finished, most) in sums.items():
-        tally.check(most == states.MOST_STORES[depth]["turn"], "depth %d: longest turn %d stores" % (depth, most))
-        print("turns: depth %d: %d cuts, %d recoveries from them, %d turns finished, stores at most: nv_turn %d" % (
-            depth, cuts, recoveries, finished, most))
+        sums[depth, family] = [a + b for a, b in zip(sums[depth, family], counts)] + [max(most, sums[depth, family][3])]
+    for (depth, family), (cuts, recoveries, finished, most) in sums.items():
+        tally.check(most == states.MOST_STORES[depth]["turn"] or (depth, family) == (3, 1),
+                    "depth %d, family %d: longest turn %d stores" % (depth, family, most))
+        print("turns: depth %d%s: %d cuts, %d recoveries from them, %d turns finished, stores at most: nv_turn %d" % (
+            depth, ", family 1" if family else "", cuts, recoveries, finished, most))
     tally.finish()
 
 

@@ -1,4 +1,4 @@
-// The bench program: formats a module of depth 1, runs the commands of its standard input on it, and prints a line for each.
+// The bench program: formats a module of depth 1 and family 0, runs the commands of its standard input on it, and prints a line for each.
 ghost use mathlib.Core.Path.{_≡_};
 ghost use Rattle.calls.specs.Call.{buffers};
 ghost use Rattle.bench_session.specs.Session.{stateOf, lineEnded, byteTaken, bytesTaken, Took, Served};
@@ -149,6 +149,6 @@ fn main() {
     let mut control = [0u8; 681];
     let mut array = [0u8; 37944];
     let mut cache = [0u8; 438];
-    format::format(1, keys, &mut control, &mut array, &mut cache);
+    format::format(1, 0, keys, &mut control, &mut array, &mut cache);
     serve(keys, &mut control, &mut array, &mut cache);
 }

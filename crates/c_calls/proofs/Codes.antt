@@ -10,7 +10,7 @@ use Rattle.answer.specs.Answer.{codeOf}
 use Rattle.answer.specs.declared.Answer.{Answer}
 use Rattle.answer.specs.declared.Answer.the-variants.{Done, Blank, Cut, Refused}
 use Rattle.counter.specs.Counter.{major}
-use Rattle.control.specs.Control.{Cell, depth, root}
+use Rattle.control.specs.Control.{Cell, family, depth, root}
 use Rattle.cache.specs.declared.Found.{Found}
 use Rattle.cache.specs.declared.Found.the-variants.{Nothing, At}
 use Rattle.tag.specs.Tag.{nodeTag}
@@ -30,7 +30,7 @@ use Rattle.call_laws.proofs.Steps.{EndIs, StepRefusal, line-step, blocks-end}
 
 -- no refusal has a higher number
 abbrev pub lastRefusal : ℕ
-lastRefusal = 32
+lastRefusal = 34
 
 -- the code of a call's answer is small
 pub record Fits (x : Called) : Type 0 where
@@ -80,9 +80,9 @@ recovery-small : (keys : List ℕ) (m : Module) → recoveryRefusal keys m ≤ l
 unfolding recoveryRefusal
 recovery-small keys m = judged-most lastRefusal _ (lit≤ tt, (lit≤ tt, (lit≤ tt, (lit≤ tt, (lit≤ tt, tt)))))
 
-format-small : (keys : List ℕ) (h : ℕ) (m : Module) → formatRefusal keys h m ≤ lastRefusal
+format-small : (keys : List ℕ) (h f : ℕ) (m : Module) → formatRefusal keys h f m ≤ lastRefusal
 unfolding formatRefusal
-format-small keys h m = judged-most lastRefusal _ (lit≤ tt, (lit≤ tt, (lit≤ tt, (lit≤ tt, (lit≤ tt, tt)))))
+format-small keys h f m = judged-most lastRefusal _ (lit≤ tt, (lit≤ tt, (lit≤ tt, (lit≤ tt, (lit≤ tt, tt)))))
 
 list-refusal-small : (control cache out : List ℕ) → listRefusal control cache out ≤ lastRefusal
 unfolding listRefusal
@@ -101,7 +101,7 @@ module _ (keys : List ℕ) (line allowance : ℕ) (out : List ℕ) (m : Module) 
   unfolding readPath readLoaded answered
   read-path (differs l i) = refused-fits 24 0 l i m (lit≤ tt)
   read-path (loaded c x) =
-      read-tests (eqb (lineMinor c line) 0) (sideOk keys (m .array) c line) _ _ _
+      read-tests (eqb (lineMinor c line) 0) (sideOk (family (m .control)) keys (m .array) c line) _ _ _
       (storing-fits allowance m (batchStores x (root (m .control))) (Blank (length (batchStores x (root (m .control))))) c (blank-fits _))
       (storing-fits allowance m (batchStores x (root (m .control))) (Done (length (batchStores x (root (m .control)))) 0) c (done-fits _ 0))
       (refused-fits 25 0 line 0 m (lit≤ tt))
@@ -149,10 +149,12 @@ module _ (keys : List ℕ) (p allowance : ℕ) (m : Module) where
   pub turn-fits : Fits (turn keys p allowance m)
   turn-fits = turn-judged (turnRefusal keys p m) (turn-small keys p m)
 
-step-small : {k : ℕ} → StepRefusal k → k ≤ lastRefusal
+step-small : (f : ℕ) {k : ℕ} → StepRefusal f k → k ≤ lastRefusal
 unfolding StepRefusal
-step-small (inl e) = omega arith
-step-small (inr e) = omega arith
+step-small zero (inl e) = omega arith
+step-small zero (inr e) = omega arith
+step-small (suc f) (inl e) = omega arith
+step-small (suc f) (inr e) = omega arith
 
 module _ (keys : List ℕ) where
   recover-root : (k : ℕ) (m : Module) (sum : ℕ) (c : List ℕ) → Fits (recoverRoot keys k m sum c)
@@ -162,18 +164,19 @@ module _ (keys : List ℕ) where
       either (eqb (nodeTag keys (current h (m .array) c h 0) h 0) (root (m .control))) (done-fits k sum _)
       (refused-fits 29 k 0 0 m (lit≤ tt))
 
-  recover-rebuilt : (k : ℕ) (m : Module) (os : List ℕ) (r : Forwarded) → EndIs StepRefusal r
+  recover-rebuilt : (k : ℕ) (m : Module) (os : List ℕ) (r : Forwarded) → EndIs (StepRefusal (family (m .control))) r
       → Fits (recoverRebuilt keys k m os r)
   unfolding recoverRebuilt EndIs
   recover-rebuilt k m os (soFar d sum) e = recover-root k m sum _
-  recover-rebuilt k m os (failed n x) e = refused-fits n k x 0 m (step-small e)
+  recover-rebuilt k m os (failed n x) e = refused-fits n k x 0 m (step-small (family (m .control)) e)
 
   recover-shadow : (k : ℕ) (m : Module) (os : List ℕ) (f : Found) → Fits (recoverShadow keys k m os f)
   unfolding recoverShadow
   recover-shadow k m os (At s) = refused-fits 27 k s 0 m (lit≤ tt)
   recover-shadow k m os Nothing =
       recover-rebuilt k m os _
-      (blocks-end StepRefusal (depth (m .control)) keys (mediaOf m) (λ ma. line-step (sourceOf keys (mediaOf m) ma)) _ _ _ _)
+      (blocks-end (StepRefusal (family (m .control))) (depth (m .control)) keys (mediaOf m)
+      (λ ma. line-step (sourceOf keys (mediaOf m) ma)) _ _ _ _)
 
   recover-judged : (allowance : ℕ) (m : Module) (n : ℕ) → n ≤ lastRefusal → Fits (recoverJudged n keys allowance m)
   unfolding recoverJudged
@@ -183,15 +186,15 @@ module _ (keys : List ℕ) where
   pub recover-fits : (allowance : ℕ) (m : Module) → Fits (recover keys allowance m)
   recover-fits allowance m = recover-judged allowance m (recoveryRefusal keys m) (recovery-small keys m)
 
-  format-judged : (h : ℕ) (m : Module) (n : ℕ) → n ≤ lastRefusal
-      → Fits (elim n as (λ _. Called) [ zero ↦ formatted keys h | suc i ↦ refuse m (suc i) 0 0 ])
+  format-judged : (h f : ℕ) (m : Module) (n : ℕ) → n ≤ lastRefusal
+      → Fits (elim n as (λ _. Called) [ zero ↦ formatted keys h f | suc i ↦ refuse m (suc i) 0 0 ])
   unfolding formatted
-  format-judged h m zero p = done-fits 0 0 _
-  format-judged h m (suc n) p = refused-fits (suc n) 0 0 0 m p
+  format-judged h f m zero p = done-fits 0 0 _
+  format-judged h f m (suc n) p = refused-fits (suc n) 0 0 0 m p
 
-  pub format-fits : (h : ℕ) (m : Module) → Fits (format keys h m)
+  pub format-fits : (h f : ℕ) (m : Module) → Fits (format keys h f m)
   unfolding format
-  format-fits h m = format-judged h m (formatRefusal keys h m) (format-small keys h m)
+  format-fits h f m = format-judged h f m (formatRefusal keys h f m) (format-small keys h f m)
 
 list-judged : (control cache out : List ℕ) (n : ℕ) → n ≤ lastRefusal
     → codeOf ((listJudged n control cache out) .answer) ≤ 100 + lastRefusal

@@ -16,24 +16,25 @@ const BAD_NUMBERS: u32 = 107;
 #[no_mangle]
 pub extern "C" fn nv_format(
     depth: u64,
+    family: u64,
     keys: &[u8],
     control: &mut [u8],
     array: &mut [u8],
     cache: &mut [u8],
     numbers: &mut [u8],
 ) -> u32
-    ensures { λ r. ⌜ r ≡ codeForC (now (numbers .entry)) ((formatOf (now (keys .entry)) depth
+    ensures { λ r. ⌜ r ≡ codeForC (now (numbers .entry)) ((formatOf (now (keys .entry)) depth family
         (buffers (now (array .entry)) (now (control .entry)) (now (cache .entry)))) .answer) ⌝ }
-    ensures { λ _. ⌜ now (numbers .exit) ≡ bufferForC (now (numbers .entry)) ((formatOf (now (keys .entry)) depth
+    ensures { λ _. ⌜ now (numbers .exit) ≡ bufferForC (now (numbers .entry)) ((formatOf (now (keys .entry)) depth family
         (buffers (now (array .entry)) (now (control .entry)) (now (cache .entry)))) .answer) ⌝ }
     ensures { λ _. ⌜ buffers (now (array .exit)) (now (control .exit)) (now (cache .exit))
         ≡ leftForC (now (numbers .entry)) (buffers (now (array .entry)) (now (control .entry)) (now (cache .entry)))
-        ((formatOf (now (keys .entry)) depth (buffers (now (array .entry)) (now (control .entry)) (now (cache .entry)))) .after) ⌝ }
+        ((formatOf (now (keys .entry)) depth family (buffers (now (array .entry)) (now (control .entry)) (now (cache .entry)))) .after) ⌝ }
 {
     if numbers.len() != 24 {
         return BAD_NUMBERS;
     }
-    let answer = format::format(depth, keys, control, array, cache);
+    let answer = format::format(depth, family, keys, control, array, cache);
     tell(answer, numbers)
 }
 

@@ -14,7 +14,7 @@ use Rattle.answer.specs.declared.Answer.{Answer}
 use Rattle.answer.specs.declared.Answer.the-variants.{Done, Blank, Cut, Refused}
 use Rattle.answer.specs.Answer.{storesOf}
 use Rattle.counter.specs.Counter.{major}
-use Rattle.control.specs.Control.{Cell, depth, root}
+use Rattle.control.specs.Control.{Cell, family, depth, root}
 use Rattle.cache.specs.declared.Found.{Found}
 use Rattle.cache.specs.declared.Found.the-variants.{Nothing, At}
 use Rattle.cache.specs.Cache.{shadowOwners, current, badSlot, emptyCache}
@@ -125,7 +125,7 @@ module _ (keys : List ℕ) (line : ℕ) (m : Module) where
     unfolding readPath readLoaded
     read-path (differs l i) = refused-limited m 24 l i
     read-path (loaded c x) =
-        read-line (eqb (lineMinor c line) 0) (sideOk keys (m .array) c line) (lineText keys (m .array) c line)
+        read-line (eqb (lineMinor c line) 0) (sideOk (family (m .control)) keys (m .array) c line) (lineText keys (m .array) c line)
         (batchStores x (root (m .control))) c
 
     read-judged : (n : ℕ) → Limited (λ a. (readJudged n keys line a m out) .called)
@@ -149,7 +149,7 @@ module _ (keys : List ℕ) (line : ℕ) (m : Module) where
     unfolding writePath writeLoaded
     write-path (differs l i) = refused-limited m 24 l i
     write-path (loaded c x) =
-        write-line (eqb (lineMinor c line) 127) (writeStores (depth (m .control)) keys line text c x)
+        write-line (eqb (lineMinor c line) 127) (writeStores (depth (m .control)) (family (m .control)) keys line text c x)
         (writtenCache (depth (m .control)) keys line c)
 
     write-judged : (n : ℕ) → Limited (λ a. writeJudged n keys line text a m)
@@ -178,7 +178,8 @@ module _ (keys : List ℕ) (p : ℕ) (m : Module) where
   unfolding turnPath turnLoaded
   turn-path (differs l i) = refused-limited m 24 l i
   turn-path (loaded c x) =
-      turn-worn (eqb (major (blockOf c p)) (2 ^ 64 - 1)) c x (badLine keys (m .array) c p (turnPlaces (m .control) c p))
+      turn-worn (eqb (major (blockOf c p)) (2 ^ 64 - 1)) c x
+      (badLine (family (m .control)) keys (m .array) c p (turnPlaces (m .control) c p))
 
   turn-judged : (n : ℕ) → Limited (λ a. turnJudged n keys p a m)
   unfolding turnJudged

@@ -6,7 +6,7 @@ use Prim.Native.Nat.{ℕ, _+_, _*_, _≤_}
 use native.Mathlib.Omega.{arith}
 use lib.ListN.{length}
 use Rattle.words.proofs.Digits.{Below}
-use Rattle.control.specs.Control.{Cell, depth}
+use Rattle.control.specs.Control.{Cell, family, depth}
 use Rattle.calls.specs.Path.{loaded}
 use Rattle.calls.specs.Call.{Module, pathOf, accessRefusal}
 use Rattle.calls.specs.Write.{writeBatch}
@@ -21,8 +21,8 @@ module _ (keys : List ℕ) (n : ℕ) (b : List ℕ) (m : Module) (bytes : Bytes 
   pub read-bound : length x ≤ 2 * depth (m .control)
   read-bound = path-few given c x path
 
-  pub write-bound : length (writeBatch (depth (m .control)) keys n b c x) ≤ 2 * depth (m .control) + 2
-  write-bound = batch-bound given c x read-bound
+  pub write-bound : length (writeBatch (depth (m .control)) (family (m .control)) keys n b c x) ≤ 2 * depth (m .control) + 2
+  write-bound = batch-bound given c (family (m .control)) x read-bound
 
-  pub eight : length (writeBatch (depth (m .control)) keys n b c x) ≤ 8
+  pub eight : length (writeBatch (depth (m .control)) (family (m .control)) keys n b c x) ≤ 8
   eight = omega (arith, write-bound, head-of keys m (given .ok .entry .opening) .flat)

@@ -9,7 +9,7 @@ use Rattle.words.specs.Bytes.{digits, toLe}
 use Rattle.words.proofs.Digits.{Below, below-nil, below-cons, below-append, below-digits}
 use Rattle.memory_map.specs.Map.{lines, nodes, levelStart, shadowStart, shadowCells, cells, arrayLength}
 use Rattle.counter.proofs.Laws.{length-counterBlock, below-counterBlock}
-use Rattle.control.specs.Control.{controlLength, mark, freshControl}
+use Rattle.control.specs.Control.{controlLength, markOf, freshControl}
 use Rattle.cache.proofs.Laws.{length-empty, below-empty}
 use Rattle.calls.specs.Call.{Module, Called, refuse}
 use Rattle.calls.specs.Format.{countsFrom, freshNode, freshRoot, nodeCells, levelCells, freshArray, formatted, format, formatRefusal}
@@ -89,41 +89,41 @@ array-bytes keys h =
     below-append (replicate (72 * lines h) 0) _ (zeros-bytes (72 * lines h))
     (level-cells-bytes keys h (suc h) _ (zeros-bytes (72 * shadowCells h)))
 
-pub control-length : (h r : ℕ) → length (freshControl h r) ≡ controlLength
+pub control-length : (h f r : ℕ) → length (freshControl h f r) ≡ controlLength
 unfolding freshControl digits
-control-length h r = refl
+control-length h f r = refl
 
-pub control-bytes : (h r : ℕ) → h < 256 → Below 256 (freshControl h r)
+pub control-bytes : (h f r : ℕ) → h < 256 → Below 256 (freshControl h f r)
 unfolding freshControl
-control-bytes h r p =
-    below-append (toLe 4 mark ++ (1 ∷ h ∷ 1 ∷ []) ++ toLe 8 r) (replicate 666 0)
-    (below-append (toLe 4 mark ++ (1 ∷ h ∷ 1 ∷ [])) (toLe 8 r)
-    (below-append (toLe 4 mark) (1 ∷ h ∷ 1 ∷ []) (below-digits 256 4 mark (lit< tt))
+control-bytes h f r p =
+    below-append (toLe 4 (markOf f) ++ (1 ∷ h ∷ 1 ∷ []) ++ toLe 8 r) (replicate 666 0)
+    (below-append (toLe 4 (markOf f) ++ (1 ∷ h ∷ 1 ∷ [])) (toLe 8 r)
+    (below-append (toLe 4 (markOf f)) (1 ∷ h ∷ 1 ∷ []) (below-digits 256 4 (markOf f) (lit< tt))
     (below-cons (lit< tt) (below-cons p (below-cons (lit< tt) (below-nil (lit< tt))))))
     (below-digits 256 8 r (lit< tt)))
     (zeros-bytes 666)
 
 -- ---- the call
 
-formatted-kept : (keys : List ℕ) (h : ℕ) (m : Module) → Formattable keys h m → Kept m ((formatted keys h) .after)
+formatted-kept : (keys : List ℕ) (h f : ℕ) (m : Module) → Formattable keys h f m → Kept m ((formatted keys h f) .after)
 unfolding formatted
-formatted-kept keys h m ok =
+formatted-kept keys h f m ok =
     record {
       array = array-length keys h ∙ sym (ok .fits .array);
-      control = control-length h (freshRoot keys (λ p. 0) (λ n. 0) h) ∙ sym (ok .control-length);
+      control = control-length h f (freshRoot keys (λ p. 0) (λ n. 0) h) ∙ sym (ok .control-length);
       cache = length-empty h ∙ sym (ok .fits .cache);
       bytes = record {
         array = array-bytes keys h;
-        control = control-bytes h (freshRoot keys (λ p. 0) (λ n. 0) h) (omega (arith, ok .high));
+        control = control-bytes h f (freshRoot keys (λ p. 0) (λ n. 0) h) (omega (arith, ok .high));
         cache = below-empty h;
       };
     }
 
-pub format-kept : (keys : List ℕ) (h : ℕ) (m : Module) → Bytes m → Kept m ((format keys h m) .after)
+pub format-kept : (keys : List ℕ) (h f : ℕ) (m : Module) → Bytes m → Kept m ((format keys h f m) .after)
 unfolding format
-format-kept keys h m b = go (formatRefusal keys h m) refl
+format-kept keys h f m b = go (formatRefusal keys h f m) refl
   where
-    go : (k : ℕ) → formatRefusal keys h m ≡ k
-        → Kept m ((elim k as (λ z. Called) [ zero ↦ formatted keys h | suc n ↦ refuse m (suc n) 0 0 ]) .after)
-    go zero e = formatted-kept keys h m (format-accepted keys h m e)
+    go : (k : ℕ) → formatRefusal keys h f m ≡ k
+        → Kept m ((elim k as (λ z. Called) [ zero ↦ formatted keys h f | suc n ↦ refuse m (suc n) 0 0 ]) .after)
+    go zero e = formatted-kept keys h f m (format-accepted keys h f m e)
     go (suc k) e = kept-same m b

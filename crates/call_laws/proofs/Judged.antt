@@ -217,23 +217,26 @@ module _ (keys : List ℕ) (p : ℕ) (m : Module) where
       unfolding turnRefusal
       turn-on z e = opened-on _ o (on _ _ _ (lt-leb _ p i) (on _ _ _ (idle-on m z) e))
 
-pub record Formattable (keys : List ℕ) (h : ℕ) (m : Module) : Type 0 where
+pub record Formattable (keys : List ℕ) (h f : ℕ) (m : Module) : Type 0 where
   pub low : 1 ≤ h
   pub high : h ≤ 3
+  pub family : f ≤ 1
   pub keys-length : length keys ≡ 48
   pub control-length : length (m .control) ≡ controlLength
   pub fits : Sized h m
 
-pub format-accepted : (keys : List ℕ) (h : ℕ) (m : Module) → formatRefusal keys h m ≡ 0 → Formattable keys h m
+pub format-accepted : (keys : List ℕ) (h f : ℕ) (m : Module) → formatRefusal keys h f m ≡ 0 → Formattable keys h f m
 unfolding formatRefusal
-format-accepted keys h m e =
-    let p = passed (not (leb 1 h && leb h 3)) 0 _ e in
+format-accepted keys h f m e =
+    let p = passed (not (leb 1 h && leb h 3 && leb f 1)) 0 _ e in
     let q = passed (not (eqb (length keys) 48)) 1 _ (p .rest) in
     let r = passed (not (eqb (length (m .control)) controlLength)) 2 _ (q .rest) in
-    let depths = and-eq-true-iff (leb 1 h) (leb h 3) .0 (not-false _ (p .test)) in
+    let both = and-eq-true-iff (leb 1 h && leb h 3) (leb f 1) .0 (not-false _ (p .test)) in
+    let depths = and-eq-true-iff (leb 1 h) (leb h 3) .0 (both .0) in
     record {
       low = leb-true 1 h (depths .0);
       high = leb-true h 3 (depths .1);
+      family = leb-true f 1 (both .1);
       keys-length = alike _ _ (q .test);
       control-length = alike _ _ (r .test);
       fits = sized h m [] (r .rest) .0;

@@ -16,7 +16,7 @@ use Rattle.words.proofs.Parts.{length-put, below-put}
 use Rattle.tag.specs.Tag.{nodeTag}
 use Rattle.memory_map.proofs.Laws.{cells-small, page-inside}
 use Rattle.slot_map.proofs.Laws.{slot-within}
-use Rattle.control.specs.Control.{Cell, controlLength, depth, root, inMap}
+use Rattle.control.specs.Control.{Cell, controlLength, family, depth, root, inMap}
 use Rattle.cache.specs.Cache.{formed, content}
 use Rattle.cache.proofs.Laws.{formed-facts, length-with, below-with, content-length, content-below, slot-room}
 use Rattle.journal.specs.Journal.{Store, storeAll, made, isCut, batchStores}
@@ -223,22 +223,22 @@ module _ {keys : List ℕ} {n : ℕ} {buffer : List ℕ} {m : Module} (g : Given
           block-bytes = block-bytes;
         }
 
-    pub batch-sound : (x : List Cell) → Each (Sound h) x → Each (Sound h) (writeBatch h keys n buffer c x)
+    pub batch-sound : (f : ℕ) (x : List Cell) → Each (Sound h) x → Each (Sound h) (writeBatch h f keys n buffer c x)
     unfolding writeBatch lineCell blockCells
-    batch-sound x s = all-sound h keys n buffer ma mi (newBlock c n) x lent s
+    batch-sound f x s = all-sound h f keys n buffer ma mi (newBlock c n) x lent s
 
     -- the bound on a batch: at most 2h + 2 cells
-    pub batch-bound : (x : List Cell) → length x ≤ 2 * h → length (writeBatch h keys n buffer c x) ≤ 2 * h + 2
+    pub batch-bound : (f : ℕ) (x : List Cell) → length x ≤ 2 * h → length (writeBatch h f keys n buffer c x) ≤ 2 * h + 2
     unfolding writeBatch lineCell blockCells
-    batch-bound x few =
-        omega (arith, all-length h keys n buffer ma mi (newBlock c n) x, block-few h (pageOf n) mi (newBlock c n))
+    batch-bound f x few =
+        omega (arith, all-length h f keys n buffer ma mi (newBlock c n) x, block-few h (pageOf n) mi (newBlock c n))
 
     loaded-kept : (a : ℕ) (x : List Cell) → Loads h c x → Kept m ((writeLoaded keys n buffer a m c x) .after)
     unfolding writeLoaded writeStores writtenCache
     loaded-kept a x l = go (eqb (lineMinor c n) 127)
       where
         xs : List Store
-        xs = writeStores h keys n buffer c x
+        xs = writeStores h (family (m .control)) keys n buffer c x
 
         flag : (t : Bool) → cond t 0 1 < 256
         flag true = lit< tt
@@ -249,7 +249,8 @@ module _ {keys : List ℕ} {n : ℕ} {buffer : List ℕ} {m : Module} (g : Given
         go true = kept-same m bytes
         go false =
             storing-kept buffers a xs _ (writtenCache h keys n c)
-            (batch-within buffers _ (batch-sound x (l .sound)) (omega (arith, batch-bound x (l .few), buffers .high)))
+            (batch-within buffers _ (batch-sound (family (m .control)) x (l .sound))
+            (omega (arith, batch-bound (family (m .control)) x (l .few), buffers .high)))
             (renew-sized (l .fit) keys (pageOf n) (newBlock c n) block-size block-bytes _ (flag (stopLoss c n)) h (le-refl h)
             ∙ sym (opening .fits .cache))
             (renew-bytes (l .fit) keys (pageOf n) (newBlock c n) block-size block-bytes _ (flag (stopLoss c n)) h (le-refl h))
@@ -287,7 +288,7 @@ module _ {keys : List ℕ} {n : ℕ} {buffer : List ℕ} {m : Module} (g : Given
 
   read-loaded : (a : ℕ) (c : List ℕ) (x : List Cell) → Loads h c x → ReadKept m buffer (readLoaded keys n a m buffer c x)
   unfolding readLoaded
-  read-loaded a c x l = go (eqb (lineMinor c n) 0) (sideOk keys (m .array) c n)
+  read-loaded a c x l = go (eqb (lineMinor c n) 0) (sideOk (family (m .control)) keys (m .array) c n)
     where
       xs : List Store
       xs = xs-of x

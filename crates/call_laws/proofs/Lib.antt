@@ -9,6 +9,7 @@ pub mod Line
 pub mod Loading
 pub mod Loads
 pub mod Rebuilt
+pub mod Refusals
 pub mod Staged
 pub mod Steps
 pub mod Storing

@@ -36,26 +36,27 @@ pub record Lent (h n : ℕ) (text b : List ℕ) : Type 0 where
 
 -- ---- the data cell
 
-module _ (keys : List ℕ) (n : ℕ) (text : List ℕ) (ma mi : ℕ) where
+module _ (f : ℕ) (keys : List ℕ) (n : ℕ) (text : List ℕ) (ma mi : ℕ) where
   abbrev sealed : List ℕ
   sealed = xorBytes text (pad keys n ma mi)
 
   pub sealed-length : length text ≡ 64 → length sealed ≡ 64
   sealed-length e = length-xor text (pad keys n ma mi) (rw (length-pad, e) (le-refl 64)) ∙ e
 
-  pub line-cell-length : length text ≡ 64 → length (lineCell keys n text ma mi .bytes) ≡ 72
+  pub line-cell-length : length text ≡ 64 → length (lineCell f keys n text ma mi .bytes) ≡ 72
   unfolding lineCell
-  line-cell-length e = length-cell keys sealed n ma mi (sealed-length e)
+  line-cell-length e = length-cell f keys sealed n ma mi (sealed-length e)
 
-  pub line-sound : {h : ℕ} {b : List ℕ} → Lent h n text b → Sound h (lineCell keys n text ma mi)
+  pub line-sound : {h : ℕ} {b : List ℕ} → Lent h n text b → Sound h (lineCell f keys n text ma mi)
   unfolding lineCell InMap cellOf
   line-sound {h} v =
       record {
         inside = cell-within h (line n) (v .inside);
         size = line-cell-length (v .full);
         bytes =
-            below-append sealed (sideBytes keys sealed n ma mi) (below-xor text (pad keys n ma mi) (v .text-bytes) (below-pad keys n ma mi))
-            (below-side keys sealed n ma mi);
+            below-append sealed (sideBytes f keys sealed n ma mi)
+            (below-xor text (pad keys n ma mi) (v .text-bytes) (below-pad keys n ma mi))
+            (below-side f keys sealed n ma mi);
       }
 
 -- ---- the text of a line, from its data cell
@@ -91,14 +92,14 @@ block-sound {h} {n} {text} {b} mi v = go (eqb (lag mi) 0)
 
 -- ---- both, behind the cells of the path
 
-module _ (h : ℕ) (keys : List ℕ) (n : ℕ) (text : List ℕ) (ma mi : ℕ) (b : List ℕ) (x : List Cell) where
+module _ (h f : ℕ) (keys : List ℕ) (n : ℕ) (text : List ℕ) (ma mi : ℕ) (b : List ℕ) (x : List Cell) where
   abbrev all : List Cell
-  all = x ++ blockCells h (pageOf n) mi b ++ (lineCell keys n text ma mi ∷ [])
+  all = x ++ blockCells h (pageOf n) mi b ++ (lineCell f keys n text ma mi ∷ [])
 
   pub all-length : length all ≡ length x + length (blockCells h (pageOf n) mi b) + 1
   all-length =
       let y = blockCells h (pageOf n) mi b in
-      length-append (x ++ y) (lineCell keys n text ma mi ∷ []) ∙ ap (λ (m : ℕ). m + 1) (length-append x y)
+      length-append (x ++ y) (lineCell f keys n text ma mi ∷ []) ∙ ap (λ (m : ℕ). m + 1) (length-append x y)
 
   pub all-sound : Lent h n text b → Each (Sound h) x → Each (Sound h) all
-  all-sound v s = each-append (each-append s (block-sound mi v)) (more (line-sound keys n text ma mi v) none)
+  all-sound v s = each-append (each-append s (block-sound mi v)) (more (line-sound f keys n text ma mi v) none)

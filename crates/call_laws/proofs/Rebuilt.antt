@@ -14,8 +14,8 @@ use Rattle.memory_map.specs.Map.Item.{node}
 use Rattle.counter.specs.Counter.{major, minors, counterBlock}
 use Rattle.counter.proofs.Laws.{length-counterBlock, below-counterBlock}
 use Rattle.tag.specs.Tag.{nodeTag}
-use Rattle.control.specs.Control.{depth, root}
-use Rattle.control.proofs.Laws.{same-depth, valid-parts}
+use Rattle.control.specs.Control.{family, depth, root}
+use Rattle.control.proofs.Laws.{same-depth, same-family, valid-parts}
 use Rattle.cache.specs.declared.Found.{Found}
 use Rattle.cache.specs.declared.Found.the-variants.{Nothing, At}
 use Rattle.cache.specs.Cache.{from, withSlot, emptyCache, cellContent, shadowOwners, badSlot, current}
@@ -170,6 +170,9 @@ module _ (keys : List ℕ) (m : Module) (b : Bytes m) (ok : Opened keys m) where
 
   pub made-depth : (a : ℕ) → depth (made-module m a .control) ≡ depth (m .control)
   made-depth a = same-depth _ (m .control) (made-front a)
+
+  pub made-family : (a : ℕ) → family (made-module m a .control) ≡ family (m .control)
+  made-family a = same-family _ (m .control) (made-front a)
 
   opened-kept : (a : ℕ) → Kept m ((recoverJudged 0 keys a m) .after)
   unfolding recoverJudged

@@ -8,10 +8,13 @@ use lib.Dec.{leb}
 use Rattle.memory_map.specs.Map.{cellOf}
 use Rattle.memory_map.specs.Map.Item.{node}
 use Rattle.counter.specs.Counter.{major, minors, counterBlock, forward}
+use Rattle.candidates.specs.Candidates.{choice}
+use Rattle.candidates.specs.declared.Choice.{Choice}
+use Rattle.candidates.specs.declared.Choice.the-variants.{None, Only, Several}
 use Rattle.control.specs.Control.{isOpen}
-use Rattle.cache.specs.Cache.{withSlot, cellContent}
+use Rattle.cache.specs.Cache.{withSlot, cellBytes, cellContent}
 use Rattle.journal.specs.Journal.{Media}
-use Rattle.calls.specs.Recovery.{Step, to, bad, byPhase, phaseByte, Source, lineStep, sourceOf}
+use Rattle.calls.specs.Recovery.{Step, to, bad, byPhase, byChoice, phaseByte, Source, stepOf, lineStep, sourceOf}
 use Rattle.calls.specs.Recovery.{Forwarded, soFar, failed, onward, stepped}
 use Rattle.calls.specs.Recovery.{forwardFrom, forwardPage, rebuildBlock, rebuildSlot, rebuildBlocks}
 
@@ -24,21 +27,33 @@ unfoldable pub EndIs : (ℕ → Type 0) → Forwarded → Type 0
 EndIs P (soFar x sum) = Unit {0}
 EndIs P (failed k n) = P k
 
--- the refusals of a line's step
-unfoldable pub StepRefusal : ℕ → Type 0
-StepRefusal k = (k ≡ 28) ⊎ (k ≡ 32)
+-- the refusals of a line's step, by the family
+unfoldable pub StepRefusal : ℕ → ℕ → Type 0
+StepRefusal zero k = (k ≡ 28) ⊎ (k ≡ 32)
+StepRefusal (suc f) k = (k ≡ 33) ⊎ (k ≡ 34)
 
-phase-step : (s p : ℕ) → StepIs StepRefusal (byPhase s p)
+phase-step : (s p : ℕ) → StepIs (StepRefusal 0) (byPhase s p)
 unfolding StepIs StepRefusal byPhase
 phase-step s p = go (leb p 3) (leb (forward s p) 127)
   where
-    go : (b d : Bool) → StepIs StepRefusal (cond b (cond d (to (forward s p)) (bad 32)) (bad 28))
+    go : (b d : Bool) → StepIs (StepRefusal 0) (cond b (cond d (to (forward s p)) (bad 32)) (bad 28))
     go true true = tt
     go true false = inr refl
     go false d = inl refl
 
-pub line-step : (x : Source) (n s : ℕ) → StepIs StepRefusal (lineStep x n s)
-line-step x n s = phase-step s (phaseByte (x .array) n)
+choice-step : (f : ℕ) (x : Choice) → StepIs (StepRefusal (suc f)) (byChoice x)
+unfolding StepIs StepRefusal byChoice
+choice-step f None = inl refl
+choice-step f (Only v) = tt
+choice-step f Several = inr refl
+
+pub line-step : (x : Source) (n s : ℕ) → StepIs (StepRefusal (x .family)) (lineStep x n s)
+unfolding stepOf
+line-step x n s = go (x .family)
+  where
+    go : (f : ℕ) → StepIs (StepRefusal f) (stepOf f x n s)
+    go zero = phase-step s (phaseByte (x .array) n)
+    go (suc f) = choice-step f (choice (x .keys) (cellBytes (x .array) n) n (x .major) s)
 
 -- ---- from the steps to all slots
 

@@ -151,18 +151,18 @@ module _ (h : ℕ) (k c : List ℕ) (p : ℕ) (x : List Cell) where
 
 -- ---- the batches
 
-module _ (h : ℕ) (keys a c : List ℕ) (p r : ℕ) where
+module _ (h f : ℕ) (keys a c : List ℕ) (p r : ℕ) where
   abbrev batches : List Cell → List ℕ → List Batch
-  batches = batchesOf h keys a c p r
+  batches = batchesOf h f keys a c p r
 
   abbrev early : List Cell → ℕ → List ℕ → Batch
-  early front j js = record { cells = front ++ (turnedCell keys a c p j ∷ []); root = r; section = leftBytes p js }
+  early front j js = record { cells = front ++ (turnedCell f keys a c p j ∷ []); root = r; section = leftBytes p js }
 
   abbrev last : List Cell → List Cell → Batch
   last = lastBatch h keys c p
 
   early-length : (front : List Cell) (j : ℕ) (js : List ℕ) → length (early front j js .cells) ≡ length front + 1
-  early-length front j js = length-append front (turnedCell keys a c p j ∷ [])
+  early-length front j js = length-append front (turnedCell f keys a c p j ∷ [])
 
   last-length : (front line : List Cell) → length (last front line .cells) ≡ length front + suc (length line)
   last-length front line = length-append front (newBlockCell h c p ∷ line)
@@ -174,7 +174,7 @@ module _ (h : ℕ) (keys a c : List ℕ) (p r : ℕ) where
   batches-more front j (i ∷ js) q = refl
 
   pub batches-last : (front : List Cell) (js : List ℕ) → length js < 2
-      → batches front js ≡ last front (map (turnedCell keys a c p) js) ∷ []
+      → batches front js ≡ last front (map (turnedCell f keys a c p) js) ∷ []
   unfolding batchesOf
   batches-last front [] q = refl
   batches-last front (j ∷ []) q = refl
@@ -186,16 +186,16 @@ module _ (h : ℕ) (keys a c : List ℕ) (p r : ℕ) where
   unfolding batchesOf storesFor
   turn-length front [] = batch-then (last front []) [] ∙ omega (arith, last-length front [])
   turn-length front (j ∷ []) =
-      let line = turnedCell keys a c p j ∷ [] in batch-then (last front line) [] ∙ omega (arith, last-length front line)
+      let line = turnedCell f keys a c p j ∷ [] in batch-then (last front line) [] ∙ omega (arith, last-length front line)
   turn-length front (j ∷ i ∷ js) =
       batch-then (early front j (i ∷ js)) (batches [] (i ∷ js))
       ∙ omega (arith, early-length front j (i ∷ js), turn-length [] (i ∷ js))
 
   module _ (page : p < pages h) (whole : length a ≡ arrayLength h) (plain : Below 256 a) where
-    pub turned-sound : (j : ℕ) → j < 64 → Sound h (turnedCell keys a c p j)
+    pub turned-sound : (j : ℕ) → j < 64 → Sound h (turnedCell f keys a c p j)
     turned-sound j q =
         let n = lineAt p j in
-        line-sound keys n (lineText keys a c n) (suc (major (blockOf c p))) 1
+        line-sound f keys n (lineText keys a c n) (suc (major (blockOf c p))) 1
         (record {
           inside = line-inside h p j q page;
           full = text-length h keys a c n whole (line-inside h p j q page);
@@ -236,7 +236,7 @@ module _ (h : ℕ) (keys a c : List ℕ) (p r : ℕ) where
     batches-proper front [] end s few lean =
         more {x = last front []} (last-proper front [] s none (omega (arith, lean (lit< tt)))) none
     batches-proper front (j ∷ []) (up l q end) s few lean =
-        let line = turnedCell keys a c p j ∷ [] in
+        let line = turnedCell f keys a c p j ∷ [] in
         more {x = last front line} (last-proper front line s (more (turned-sound j q) none) (omega (arith, lean (lit< tt)))) none
     batches-proper front (j ∷ i ∷ js) (up l q rest) s few lean =
         more {x = early front j (i ∷ js)} (early-proper front j (i ∷ js) s few q)
@@ -251,13 +251,13 @@ module _ (h : ℕ) (keys a c : List ℕ) (p r : ℕ) where
 
   -- a cell that none of them is
   pub batches-spare : (n : ℕ) → (newBlockCell h c p .number ≡ n → ⊥) → (front : List Cell) → Each (λ (x : Cell). x .number ≡ n → ⊥) front
-      → (js : List ℕ) → ((j : ℕ) → List·Memᴰ j js → turnedCell keys a c p j .number ≡ n → ⊥) → Each (Spares n) (batches front js)
+      → (js : List ℕ) → ((j : ℕ) → List·Memᴰ j js → turnedCell f keys a c p j .number ≡ n → ⊥) → Each (Spares n) (batches front js)
   unfolding batchesOf
-  batches-spare n new front f [] e = more {x = last front []} (each-append f (more {x = newBlockCell h c p} new none)) none
-  batches-spare n new front f (j ∷ []) e =
-      let line = turnedCell keys a c p j ∷ [] in
+  batches-spare n new front t [] e = more {x = last front []} (each-append t (more {x = newBlockCell h c p} new none)) none
+  batches-spare n new front t (j ∷ []) e =
+      let line = turnedCell f keys a c p j ∷ [] in
       more {x = last front line}
-      (each-append f (more {x = newBlockCell h c p} new (more {x = turnedCell keys a c p j} (e j (List·Memᴰ·head refl)) none))) none
-  batches-spare n new front f (j ∷ i ∷ js) e =
-      more {x = early front j (i ∷ js)} (each-append f (more {x = turnedCell keys a c p j} (e j (List·Memᴰ·head refl)) none))
+      (each-append t (more {x = newBlockCell h c p} new (more {x = turnedCell f keys a c p j} (e j (List·Memᴰ·head refl)) none))) none
+  batches-spare n new front t (j ∷ i ∷ js) e =
+      more {x = early front j (i ∷ js)} (each-append t (more {x = turnedCell f keys a c p j} (e j (List·Memᴰ·head refl)) none))
       (batches-spare n new [] none (i ∷ js) (λ k m. e k (List·Memᴰ·tail m)))

@@ -11,7 +11,7 @@ use lib.ListN.{length}
 use Rattle.bits.proofs.Climbs.{climbs-length}
 use Rattle.counter.specs.Counter.{major, turned}
 use Rattle.turn_block.proofs.Laws.{length-turned, below-turned}
-use Rattle.control.specs.Control.{Cell, depth, root}
+use Rattle.control.specs.Control.{Cell, family, depth, root}
 use Rattle.cache.specs.declared.Found.{Found}
 use Rattle.cache.specs.declared.Found.the-variants.{Nothing, At}
 use Rattle.cache.proofs.Laws.{formed-facts}
@@ -46,7 +46,8 @@ module _ {keys : List ℕ} {p : ℕ} {m : Module} (bytes : Bytes m) (ok : TurnAc
     proper : Each (Proper h) (turnBatches keys p m c x)
     unfolding turnBatches
     proper =
-        turn-proper h keys (m .array) c p (root (m .control)) (ok .inside) (opening .fits .array) (bytes .array) (m .control) x (l .fit)
+        turn-proper h (family (m .control)) keys (m .array) c p (root (m .control)) (ok .inside) (opening .fits .array)
+        (bytes .array) (m .control) x (l .fit)
         (l .sound) (l .few)
 
     -- two stores for each cell of the path, and one more cell; for each of at most 64 lines two, and three for its batch
@@ -57,7 +58,7 @@ module _ {keys : List ℕ} {p : ℕ} {m : Module} (bytes : Bytes m) (ok : TurnAc
         let js = turnPlaces (m .control) c p in
         omega (
           arith,
-          turn-length h keys (m .array) c p (root (m .control)) front js,
+          turn-length h (family (m .control)) keys (m .array) c p (root (m .control)) front js,
           front-few h (m .control) c p x,
           climbs-length (places-climb (m .control) c p) zero-le,
           l .few,
@@ -79,11 +80,11 @@ module _ {keys : List ℕ} {p : ℕ} {m : Module} (bytes : Bytes m) (ok : TurnAc
     loaded-kept a = go (eqb (major (blockOf c p)) (2 ^ 64 - 1))
       where
         checked : Called
-        checked = turnChecked keys p a m c x (badLine keys (m .array) c p (turnPlaces (m .control) c p))
+        checked = turnChecked keys p a m c x (badLine (family (m .control)) keys (m .array) c p (turnPlaces (m .control) c p))
 
         go : (t : Bool) → Kept m ((cond {A = Called} t (refuse m 31 0 0) checked) .after)
         go true = kept-same m bytes
-        go false = checked-kept a (badLine keys (m .array) c p (turnPlaces (m .control) c p))
+        go false = checked-kept a (badLine (family (m .control)) keys (m .array) c p (turnPlaces (m .control) c p))
 
   path-kept : (a : ℕ) (r : Loaded) → LoadsIf h r → Kept m ((turnPath keys p a m r) .after)
   unfolding turnPath LoadsIf

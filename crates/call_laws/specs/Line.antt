@@ -14,7 +14,7 @@ use Rattle.call_laws.specs.Walk.{pathCells}
 unfoldable pub blockCells : ℕ → ℕ → ℕ → List ℕ → List Cell
 blockCells h p mi b = cond (eqb (lag mi) 0) (nodeCell h 0 p b ∷ []) []
 
--- the batch: the path's cells, the block, the data cell
-unfoldable pub lineCells : ℕ → List ℕ → List ℕ → ℕ → List ℕ → ℕ → ℕ → List ℕ → List Cell
-lineCells h keys c line text ma mi b =
-    pathCells h c (pageOf line) (suc h) ++ blockCells h (pageOf line) mi b ++ (lineCell keys line text ma mi ∷ [])
+-- the batch, in a module of family f: the path's cells, the block, the data cell
+unfoldable pub lineCells : ℕ → ℕ → List ℕ → List ℕ → ℕ → List ℕ → ℕ → ℕ → List ℕ → List Cell
+lineCells h f keys c line text ma mi b =
+    pathCells h c (pageOf line) (suc h) ++ blockCells h (pageOf line) mi b ++ (lineCell f keys line text ma mi ∷ [])

@@ -1,11 +1,12 @@
 -- Written by tests/test_examples.py: a write with an eviction and a stop-loss store, outputs of reads, the batches of a turn and of a
--- resumed one, what a recovery rebuilds, where a page is open too, the line that ends one, refusals in sequence, and a list of dirty
--- pages. Assumes nothing.
+-- resumed one, what a recovery rebuilds, where a page is open too, the line that ends one, the step of a line without a phase byte,
+-- refusals in sequence, and a list of dirty pages. Assumes nothing.
 use mathlib.Core.Path.{_≡_, refl}
-use mathlib.Core.List.{List, [], _∷_, map}
+use mathlib.Core.List.{List, [], _∷_, _++_, map}
 use Prim.Native.Nat.{ℕ, _*_}
 use lib.ListN.{replicate, set}
 use Rattle.words.specs.Bytes.{part}
+use Rattle.candidates.specs.declared.Choice.the-variants.{None, Several}
 use Rattle.answer.specs.declared.Answer.{Answer}
 use Rattle.answer.specs.declared.Answer.the-variants.{Done, Blank, Cut, Refused}
 use Rattle.cache.specs.Cache.{emptyCache}
@@ -15,7 +16,7 @@ use Rattle.calls.specs.Call.{Module, Called, accessRefusal}
 use Rattle.calls.specs.Read.{Reading, read}
 use Rattle.calls.specs.Write.{write}
 use Rattle.calls.specs.Turn.{Batch, turnRefusal, turnFront, turnBatches, batchesOf, beforeLast}
-use Rattle.calls.specs.Recovery.{soFar, failed, rebuildBlocks, rebuildNodes, recoverRebuilt}
+use Rattle.calls.specs.Recovery.{to, bad, byChoice, lineStep, soFar, failed, rebuildBlocks, rebuildNodes, recoverRebuilt}
 use Rattle.calls.specs.DirtyPages.{dirtyPages}
 use Rattle.calls.proofs.Run.{run}
 use Rattle.calls.proofs.Sparse.{sparse, upTo}
@@ -206,7 +207,7 @@ unfolding run sparse upTo shapes start openControl
 resumed = refl
 
 last :
-    batchesOf 1 (upTo 48 0) (start .array) (start .cache) 0 0 [] (2 ∷ [])
+    batchesOf 1 0 (upTo 48 0) (start .array) (start .cache) 0 0 [] (2 ∷ [])
     ≡ record {
       cells = record {
         number = 512;
@@ -296,6 +297,30 @@ failing-told :
     ∷ []
 unfolding run sparse upTo start
 failing-told = refl
+
+chosen :
+    byChoice None
+    ∷ byChoice Several
+    ∷ lineStep (record {
+      family = 1;
+      keys = upTo 48 0;
+      array = replicate 72 0 ++ (sparse ((
+        0,
+        5 ∷ 5 ∷ 5 ∷ 5 ∷ 5 ∷ 5 ∷ 5 ∷ 5 ∷ 5 ∷ 5 ∷ 5 ∷ 5 ∷ 5 ∷ 5 ∷ 5 ∷ 5 ∷ 5 ∷ 5 ∷ 5 ∷ 5 ∷
+            5 ∷ 5 ∷ 5 ∷ 5 ∷ 5 ∷ 5 ∷ 5 ∷ 5 ∷ 5 ∷ 5 ∷ 5 ∷ 5 ∷ 5 ∷ 5 ∷ 5 ∷ 5 ∷ 5 ∷ 5 ∷ 5 ∷ 5 ∷
+            5 ∷ 5 ∷ 5 ∷ 5 ∷ 5 ∷ 5 ∷ 5 ∷ 5 ∷ 5 ∷ 5 ∷ 5 ∷ 5 ∷ 5 ∷ 5 ∷ 5 ∷ 5 ∷ 5 ∷ 5 ∷ 5 ∷ 5 ∷
+            5 ∷ 5 ∷ 5 ∷ 5 ∷ 14 ∷ 227 ∷ 28 ∷ 140 ∷ 28 ∷ 228 ∷ 66 ∷ 161 ∷ [],
+      )
+          ∷ []));
+      major = 3;
+    }) 1 3
+    ∷ []
+    ≡ bad 33
+    ∷ bad 34
+    ∷ to 6
+    ∷ []
+unfolding run sparse upTo
+chosen = refl
 
 read-judged :
     accessRefusal (upTo 48 0) 0 (replicate 64 0)

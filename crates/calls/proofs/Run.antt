@@ -8,7 +8,7 @@ use Rattle.calls.specs.Read.{sideOk, lineText, blankText, answered, read
 use Rattle.calls.specs.Write.{newBlock, lineCell, writeBatch, writeStores, writtenCache, writeLoaded, writePath, writeJudged}
 use Rattle.calls.specs.Turn.{turnRefusal, turnPlaces, badLine, batchesOf, turnFront, turnBatches, storesFor, turnedCache, turnChecked}
 use Rattle.calls.specs.Turn.{turnLoaded, turnPath, turnJudged, beforeLast, beforeFinished}
-use Rattle.calls.specs.Recovery.{recoveryRefusal, byPhase, onward, stepped, forwardFrom, forwardPage, rebuildBlock}
+use Rattle.calls.specs.Recovery.{recoveryRefusal, byPhase, byChoice, stepOf, onward, stepped, forwardFrom, forwardPage, rebuildBlock}
 use Rattle.calls.specs.Recovery.{rebuildSlot, rebuildBlocks, rebuildNode, rebuildNodes, recoverRoot, recoverRebuilt}
 use Rattle.calls.specs.Recovery.{recoverShadow, recoverJudged}
 use Rattle.calls.specs.Format.{formatRefusal, countsFrom, freshNode, nodeCells, levelCells, freshArray, formatted, format}
@@ -16,8 +16,8 @@ use Rattle.calls.specs.DirtyPages.{listRefusal, isDirty, dirtyFrom, page
 use Rattle.calls.specs.ForC.{codeForC, bufferForC, leftForC}
 use Rattle.calls.specs.Path.{evicted, loadNode, loadLevels, renewed, renewPath, tagsFrom}
 use Rattle.chacha20.specs.ChaCha20.{quarter, quarterRound, columnRound, diagonalRound, rounds, addStates, start, serialised, block}
-use Rattle.control.specs.Control.{depth, root, count, newRoot, queued, places, queue, inMap, validHead, valid, freshControl}
-use Rattle.control.specs.Control.{turnCount, turnPage, turnMask, isOpen, otherOpen, validTurn}
+use Rattle.control.specs.Control.{markOf, mark, family, depth, root, count, newRoot, queued, places, queue, inMap}
+use Rattle.control.specs.Control.{validMark, validHead, valid, turnCount, turnPage, turnMask, isOpen, otherOpen, validTurn, freshControl}
 use Rattle.bits.specs.Bits.{setFrom, withBits}
 use Rattle.counter.specs.Counter.{major, minors, counterBlock, withMinor, writtenFrom, turnedMinor, turned, forward}
 use Rattle.journal.specs.Journal.{store, storeAll, stages, finish, batchStores, turnStores, pendingStores}
@@ -27,6 +27,7 @@ use Rattle.pad.specs.Pad.{pad, xorBytes}
 use Rattle.siphash.specs.SipHash.{initial, lastWord, messageWords, sipRound, compress, compressAll, finalize, sipHash}
 use Rattle.tag.specs.Tag.{nodeInput, nodeTag, dataInput, dataHash}
 use Rattle.side.specs.Side.{sideBytes, sideFits}
+use Rattle.candidates.specs.Candidates.{allZero, cellFits, candidate, each, also, chosen, choice}
 use Rattle.words.specs.Bytes.{number, digits, wordsOf, bytesOf}
 use Rattle.rotation.specs.Rotate.{rotl}
 
@@ -36,12 +37,13 @@ unfolding codeOf storesOf firstOf secondOf owner dirty content withSlot cellCont
     countsFrom freshNode nodeCells levelCells freshArray formatted format sideOk lineText blankText answered readLoaded readPath
     readJudged newBlock lineCell writeBatch writeStores writtenCache writeLoaded writePath writeJudged turnRefusal turnPlaces badLine
     batchesOf turnFront turnBatches storesFor turnedCache turnChecked turnLoaded turnPath turnJudged beforeLast beforeFinished setFrom
-    withBits writtenFrom turnedMinor turned turnStores byPhase onward stepped forwardFrom forwardPage rebuildBlock rebuildSlot
-    rebuildBlocks rebuildNode rebuildNodes recoverRoot recoverRebuilt recoverShadow recoverJudged isDirty dirtyFrom pageList listJudged
-    codeForC bufferForC leftForC evicted loadNode loadLevels renewed renewPath tagsFrom quarter quarterRound columnRound diagonalRound
-    rounds addStates start serialised block depth root count newRoot queued places queue inMap turnCount turnPage turnMask isOpen
-    otherOpen validHead validTurn valid freshControl major minors counterBlock withMinor forward store storeAll stages finish
-    batchStores pendingStores pages lines nodes levelStart slots shadowStart shadowCells cells arrayLength cacheLength cellOf InMap
-    slotOf levelOf belongs pad xorBytes initial lastWord messageWords sipRound compress compressAll finalize sipHash nodeInput nodeTag
-    dataInput dataHash sideBytes sideFits number digits wordsOf bytesOf rotl
+    withBits writtenFrom turnedMinor turned turnStores byPhase byChoice stepOf allZero cellFits candidate each also chosen choice
+    onward stepped forwardFrom forwardPage rebuildBlock rebuildSlot rebuildBlocks rebuildNode rebuildNodes recoverRoot recoverRebuilt
+    recoverShadow recoverJudged isDirty dirtyFrom pageList listJudged codeForC bufferForC leftForC evicted loadNode loadLevels renewed
+    renewPath tagsFrom quarter quarterRound columnRound diagonalRound rounds addStates start serialised block markOf mark family depth
+    root count newRoot queued places queue inMap turnCount turnPage turnMask isOpen otherOpen validMark validHead validTurn valid
+    freshControl major minors counterBlock withMinor forward store storeAll stages finish batchStores pendingStores pages lines nodes
+    levelStart slots shadowStart shadowCells cells arrayLength cacheLength cellOf InMap slotOf levelOf belongs pad xorBytes initial
+    lastWord messageWords sipRound compress compressAll finalize sipHash nodeInput nodeTag dataInput dataHash sideBytes sideFits
+    number digits wordsOf bytesOf rotl
 run = 0

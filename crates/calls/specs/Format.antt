@@ -39,23 +39,23 @@ freshArray keys h = replicate (72 * lines h) 0 ++ levelCells keys h (suc h) (rep
 abbrev pub freshRoot : List ℕ → (ℕ → ℕ) → (ℕ → ℕ) → ℕ → ℕ
 freshRoot keys majors f h = nodeTag keys (freshNode keys majors f h 0) h 0
 
--- 1 2 3 4 5
-unfoldable pub formatRefusal : List ℕ → ℕ → Module → ℕ
-formatRefusal keys h m = judged
-    ((not (leb 1 h && leb h 3), 1) ∷ (unlike (length keys) 48, 2) ∷ (unlike (length (m .control)) controlLength, 3) ∷ lengthTests h m)
+-- 1 2 3 4 5; h is the depth, f the family
+unfoldable pub formatRefusal : List ℕ → ℕ → ℕ → Module → ℕ
+formatRefusal keys h f m = judged
+    ((not (leb 1 h && leb h 3 && leb f 1), 1) ∷ (unlike (length keys) 48, 2) ∷ (unlike (length (m .control)) controlLength, 3)
+    ∷ lengthTests h m)
 
-unfoldable pub formatted : List ℕ → ℕ → Called
-formatted keys h =
+unfoldable pub formatted : List ℕ → ℕ → ℕ → Called
+formatted keys h f =
     record {
       answer = Done 0 0;
       after = record {
         array = freshArray keys h;
-        control = freshControl h
-            (freshRoot keys (λ p. 0) (λ n. 0) h);
+        control = freshControl h f (freshRoot keys (λ p. 0) (λ n. 0) h);
         cache = emptyCache h;
       };
     }
 
-unfoldable pub format : List ℕ → ℕ → Module → Called
-format keys h m =
-    elim (formatRefusal keys h m) [ zero ↦ formatted keys h | suc n ↦ refuse m (suc n) 0 0 ]
+unfoldable pub format : List ℕ → ℕ → ℕ → Module → Called
+format keys h f m =
+    elim (formatRefusal keys h f m) [ zero ↦ formatted keys h f | suc n ↦ refuse m (suc n) 0 0 ]

@@ -12,7 +12,7 @@ use Rattle.pad.specs.Pad.{pad, xorBytes}
 use Rattle.side.specs.Side.{sideFits}
 use Rattle.answer.specs.declared.Answer.the-variants.{Done, Blank}
 use Rattle.answer.specs.declared.Answer.{Answer}
-use Rattle.control.specs.Control.{Cell, root}
+use Rattle.control.specs.Control.{Cell, family, root}
 use Rattle.cache.specs.Cache.{content, cellBytes, cellContent}
 use Rattle.journal.specs.Journal.{Store, batchStores, isCut}
 use Rattle.calls.specs.Path.{Loaded, loaded, differs}
@@ -25,9 +25,9 @@ pageBlock c line = content c (slotOf 0 (pageOf line))
 abbrev pub lineMinor : List ℕ → ℕ → ℕ
 lineMinor c line = minor (pageBlock c line) (placeOf line)
 
--- whether a line's data cell has the side bytes of its counter
-unfoldable pub sideOk : List ℕ → List ℕ → List ℕ → ℕ → Bool
-sideOk keys a c line = sideFits keys (cellBytes a line) line (major (pageBlock c line)) (lineMinor c line)
+-- whether a line's data cell has the side bytes of its counter, in a module of family f
+unfoldable pub sideOk : ℕ → List ℕ → List ℕ → List ℕ → ℕ → Bool
+sideOk f keys a c line = sideFits f keys (cellBytes a line) line (major (pageBlock c line)) (lineMinor c line)
 
 unfoldable pub lineText : List ℕ → List ℕ → List ℕ → ℕ → List ℕ
 lineText keys a c line = xorBytes (cellContent a line) (pad keys line (major (pageBlock c line)) (lineMinor c line))
@@ -56,7 +56,7 @@ unfoldable pub readLoaded : List ℕ → ℕ → ℕ → Module → List ℕ →
 readLoaded keys line allowance m out c x =
     let xs = batchStores x (root (m .control)) in
     cond (eqb (lineMinor c line) 0) (answered allowance m xs (Blank (length xs)) c blankText out)
-    (cond (sideOk keys (m .array) c line)
+    (cond (sideOk (family (m .control)) keys (m .array) c line)
     (answered allowance m xs (Done (length xs) 0) c (lineText keys (m .array) c line) out)
     (refusedRead (refuse m 25 line 0) out))
 

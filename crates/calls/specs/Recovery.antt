@@ -10,9 +10,12 @@ use Rattle.memory_map.specs.Map.{cellOf}
 use Rattle.slot_map.specs.Slots.{levelOf}
 use Rattle.counter.specs.Counter.{major, minors, counterBlock, forward}
 use Rattle.tag.specs.Tag.{nodeTag}
+use Rattle.candidates.specs.Candidates.{choice}
+use Rattle.candidates.specs.declared.Choice.{Choice}
+use Rattle.candidates.specs.declared.Choice.the-variants.{None, Only, Several}
 use Rattle.answer.specs.declared.Answer.the-variants.{Done, Cut, Refused}
-use Rattle.control.specs.Control.{depth, root, isOpen}
-use Rattle.cache.specs.Cache.{withSlot, emptyCache, cellContent, shadowOwners, badSlot, current}
+use Rattle.control.specs.Control.{family, depth, root, isOpen}
+use Rattle.cache.specs.Cache.{withSlot, emptyCache, cellBytes, cellContent, shadowOwners, badSlot, current}
 use Rattle.cache.specs.declared.Found.{Found}
 use Rattle.cache.specs.declared.Found.the-variants.{Nothing, At}
 use Rattle.journal.specs.Journal.{Media, storeAll, pendingStores, made, isCut}
@@ -33,19 +36,30 @@ pub data Step : Type 0 where
   to : ℕ → Step
   bad : ℕ → Step
 
--- a minor s brought forward to a phase p; a phase over 3 is 28, which is judged before a minor past 127, 32
+-- family 0: a minor s brought forward to a phase p; a phase over 3 is 28, which is judged before a minor past 127, 32
 unfoldable pub byPhase : ℕ → ℕ → Step
 byPhase s p = cond (leb p 3) (cond (leb (forward s p) 127) (to (forward s p)) (bad 32)) (bad 28)
 
--- what the steps of a page's lines may look at: the keys, the array, and the major of the page's block there
+-- family 1: the only candidate that fits; none is 33, several are 34
+unfoldable pub byChoice : Choice → Step
+byChoice None = bad 33
+byChoice (Only v) = to v
+byChoice Several = bad 34
+
+-- what the lines of a page are brought forward by: the family, the keys, the array, and the major of the page's block there
 pub record Source : Type 0 where
+  pub family : ℕ
   pub keys : List ℕ
   pub array : List ℕ
   pub major : ℕ
 
--- the step of line n, whose stored minor is s
+-- the step of line n, whose stored minor is s, by the family
+unfoldable pub stepOf : ℕ → Source → ℕ → ℕ → Step
+stepOf zero x n s = byPhase s (phaseByte (x .array) n)
+stepOf (suc f) x n s = byChoice (choice (x .keys) (cellBytes (x .array) n) n (x .major) s)
+
 abbrev pub lineStep : Source → ℕ → ℕ → Step
-lineStep x n s = byPhase s (phaseByte (x .array) n)
+lineStep x n s = stepOf (x .family) x n s
 
 -- How far bringing the counters forward has come: to new minors of a page, or a cache, and the sum so far; or to a refusal and the line
 -- that ends it
@@ -74,7 +88,7 @@ unfoldable pub forwardPage : List ℕ → Source → ℕ → List ℕ → ℕ �
 forwardPage k x p ss sum = cond (isOpen k p) (soFar ss sum) (forwardFrom x (64 * p) ss [] sum)
 
 abbrev pub sourceOf : List ℕ → Media → ℕ → Source
-sourceOf keys d ma = record { keys = keys; array = d .array; major = ma }
+sourceOf keys d ma = record { family = family (d .control); keys = keys; array = d .array; major = ma }
 
 -- the block of page p, of the array, brought forward into slot s of c
 unfoldable pub rebuildBlock : ℕ → List ℕ → Media → List ℕ → ℕ → ℕ → ℕ → Forwarded

@@ -10,7 +10,7 @@ use Rattle.memory_map.specs.Map.{pages}
 use Rattle.slot_map.specs.Slots.{slotOf}
 use Rattle.counter.specs.Counter.{major, written, turned}
 use Rattle.answer.specs.declared.Answer.the-variants.{Done}
-use Rattle.control.specs.Control.{Cell, depth, root, turnMask, turnBytes, isOpen, otherOpen, pending}
+use Rattle.control.specs.Control.{Cell, family, depth, root, turnMask, turnBytes, isOpen, otherOpen, pending}
 use Rattle.cache.specs.Cache.{content, formed}
 use Rattle.cache.specs.declared.Found.{Found}
 use Rattle.cache.specs.declared.Found.the-variants.{Nothing, At}
@@ -41,11 +41,11 @@ blockOf c p = content c (slotOf 0 p)
 unfoldable pub turnPlaces : List ℕ → List ℕ → ℕ → List ℕ
 turnPlaces k c p = cond (isOpen k p) (setBits (turnMask k)) (written (blockOf c p))
 
--- the first of these lines that has minor 0 or wrong side bytes
-unfoldable pub badLine : List ℕ → List ℕ → List ℕ → ℕ → List ℕ → Found
-badLine keys a c p [] = Nothing
-badLine keys a c p (j ∷ js) =
-    let n = lineAt p j in cond (not (eqb (lineMinor c n) 0) && sideOk keys a c n) (badLine keys a c p js) (At n)
+-- the first of these lines that has minor 0 or wrong side bytes, in a module of family f
+unfoldable pub badLine : ℕ → List ℕ → List ℕ → List ℕ → ℕ → List ℕ → Found
+badLine f keys a c p [] = Nothing
+badLine f keys a c p (j ∷ js) =
+    let n = lineAt p j in cond (not (eqb (lineMinor c n) 0) && sideOk f keys a c n) (badLine f keys a c p js) (At n)
 
 -- Batches
 
@@ -56,8 +56,8 @@ pub record Batch : Type 0 where
   pub section : List ℕ
 
 -- the line at place j encrypted afresh
-abbrev pub turnedCell : List ℕ → List ℕ → List ℕ → ℕ → ℕ → Cell
-turnedCell keys a c p j = lineCell keys (lineAt p j) (lineText keys a c (lineAt p j)) (suc (major (blockOf c p))) 1
+abbrev pub turnedCell : ℕ → List ℕ → List ℕ → List ℕ → ℕ → ℕ → Cell
+turnedCell f keys a c p j = lineCell f keys (lineAt p j) (lineText keys a c (lineAt p j)) (suc (major (blockOf c p))) 1
 
 -- the section while these places of page p are left
 abbrev pub leftBytes : ℕ → List ℕ → List ℕ
@@ -76,12 +76,12 @@ lastBatch h keys c p front line =
     record { cells = front ++ (newBlockCell h c p ∷ line); root = turnedRoot h keys c p; section = turnBytes 0 0 0 }
 
 -- the batches that turn these places, each a line; the first starts with the cells front; r is the root until the last
-unfoldable pub batchesOf : ℕ → List ℕ → List ℕ → List ℕ → ℕ → ℕ → List Cell → List ℕ → List Batch
-batchesOf h keys a c p r front [] = lastBatch h keys c p front [] ∷ []
-batchesOf h keys a c p r front (j ∷ []) = lastBatch h keys c p front (turnedCell keys a c p j ∷ []) ∷ []
-batchesOf h keys a c p r front (j ∷ i ∷ js) =
-    record { cells = front ++ (turnedCell keys a c p j ∷ []); root = r; section = leftBytes p (i ∷ js) }
-    ∷ batchesOf h keys a c p r [] (i ∷ js)
+unfoldable pub batchesOf : ℕ → ℕ → List ℕ → List ℕ → List ℕ → ℕ → ℕ → List Cell → List ℕ → List Batch
+batchesOf h f keys a c p r front [] = lastBatch h keys c p front [] ∷ []
+batchesOf h f keys a c p r front (j ∷ []) = lastBatch h keys c p front (turnedCell f keys a c p j ∷ []) ∷ []
+batchesOf h f keys a c p r front (j ∷ i ∷ js) =
+    record { cells = front ++ (turnedCell f keys a c p j ∷ []); root = r; section = leftBytes p (i ∷ js) }
+    ∷ batchesOf h f keys a c p r [] (i ∷ js)
 
 -- the first batch starts with the cells x of the missing path; that of a turn with two lines or more, if it is not a resumed one, goes on
 -- with the counter block as it is
@@ -92,7 +92,7 @@ turnFront h k c p x =
 unfoldable pub turnBatches : List ℕ → ℕ → Module → List ℕ → List Cell → List Batch
 turnBatches keys p m c x =
     let h = depth (m .control) in
-    batchesOf h keys (m .array) c p (root (m .control)) (turnFront h (m .control) c p x) (turnPlaces (m .control) c p)
+    batchesOf h (family (m .control)) keys (m .array) c p (root (m .control)) (turnFront h (m .control) c p x) (turnPlaces (m .control) c p)
 
 -- their stores
 unfoldable pub storesFor : List Batch → List Store
@@ -113,7 +113,7 @@ turnChecked keys p allowance m c x Nothing =
 unfoldable pub turnLoaded : List ℕ → ℕ → ℕ → Module → List ℕ → List Cell → Called
 turnLoaded keys p allowance m c x =
     cond (eqb (major (blockOf c p)) (2 ^ 64 - 1)) (refuse m 31 0 0)
-    (turnChecked keys p allowance m c x (badLine keys (m .array) c p (turnPlaces (m .control) c p)))
+    (turnChecked keys p allowance m c x (badLine (family (m .control)) keys (m .array) c p (turnPlaces (m .control) c p)))
 
 unfoldable pub turnPath : List ℕ → ℕ → ℕ → Module → Loaded → Called
 turnPath keys p allowance m (differs l i) = refuse m 24 l i

@@ -10,7 +10,7 @@ use Rattle.counter.specs.Counter.{major, withMinor, lag}
 use Rattle.pad.specs.Pad.{pad, xorBytes}
 use Rattle.side.specs.Side.{sideBytes}
 use Rattle.answer.specs.declared.Answer.the-variants.{Done}
-use Rattle.control.specs.Control.{depth, Cell}
+use Rattle.control.specs.Control.{family, depth, Cell}
 use Rattle.journal.specs.Journal.{Store, batchStores}
 use Rattle.calls.specs.Path.{nodeCell, Loaded, loaded, differs, renewPath, renewedRoot}
 use Rattle.calls.specs.Call.{Module, Called, accessRefusal, refuse, storing, pathOf}
@@ -27,22 +27,22 @@ newBlock c line = withMinor (pageBlock c line) (placeOf line) (newMinor c line)
 abbrev pub stopLoss : List ℕ → ℕ → Bool
 stopLoss c line = eqb (lag (newMinor c line)) 0
 
--- the data cell of a text at a counter
-unfoldable pub lineCell : List ℕ → ℕ → List ℕ → ℕ → ℕ → Cell
-lineCell keys line text ma mi =
-    let b = xorBytes text (pad keys line ma mi) in record { number = line; bytes = b ++ sideBytes keys b line ma mi }
+-- the data cell of a text at a counter, in a module of family f
+unfoldable pub lineCell : ℕ → List ℕ → ℕ → List ℕ → ℕ → ℕ → Cell
+lineCell f keys line text ma mi =
+    let b = xorBytes text (pad keys line ma mi) in record { number = line; bytes = b ++ sideBytes f keys b line ma mi }
 
-abbrev pub dataCell : List ℕ → ℕ → List ℕ → List ℕ → Cell
-dataCell keys line text c = lineCell keys line text (major (pageBlock c line)) (newMinor c line)
+abbrev pub dataCell : ℕ → List ℕ → ℕ → List ℕ → List ℕ → Cell
+dataCell f keys line text c = lineCell f keys line text (major (pageBlock c line)) (newMinor c line)
 
 -- x is the batch of the loaded path
-unfoldable pub writeBatch : ℕ → List ℕ → ℕ → List ℕ → List ℕ → List Cell → List Cell
-writeBatch h keys line text c x =
-    x ++ cond (stopLoss c line) (nodeCell h 0 (pageOf line) (newBlock c line) ∷ []) [] ++ (dataCell keys line text c ∷ [])
+unfoldable pub writeBatch : ℕ → ℕ → List ℕ → ℕ → List ℕ → List ℕ → List Cell → List Cell
+writeBatch h f keys line text c x =
+    x ++ cond (stopLoss c line) (nodeCell h 0 (pageOf line) (newBlock c line) ∷ []) [] ++ (dataCell f keys line text c ∷ [])
 
-unfoldable pub writeStores : ℕ → List ℕ → ℕ → List ℕ → List ℕ → List Cell → List Store
-writeStores h keys line text c x =
-    batchStores (writeBatch h keys line text c x) (renewedRoot h keys c (pageOf line) (newBlock c line))
+unfoldable pub writeStores : ℕ → ℕ → List ℕ → ℕ → List ℕ → List ℕ → List Cell → List Store
+writeStores h f keys line text c x =
+    batchStores (writeBatch h f keys line text c x) (renewedRoot h keys c (pageOf line) (newBlock c line))
 
 unfoldable pub writtenCache : ℕ → List ℕ → ℕ → List ℕ → List ℕ
 writtenCache h keys line c = renewPath keys c (pageOf line) (newBlock c line) (cond (stopLoss c line) 0 1) h
@@ -50,7 +50,7 @@ writtenCache h keys line c = renewPath keys c (pageOf line) (newBlock c line) (c
 unfoldable pub writeLoaded : List ℕ → ℕ → List ℕ → ℕ → Module → List ℕ → List Cell → Called
 writeLoaded keys line text allowance m c x =
     let h = depth (m .control) in
-    let xs = writeStores h keys line text c x in
+    let xs = writeStores h (family (m .control)) keys line text c x in
     cond (eqb (lineMinor c line) 127) (refuse m 26 0 0)
     (storing allowance m xs (Done (length xs) 0) (writtenCache h keys line c))
 

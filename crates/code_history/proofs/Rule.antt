@@ -1,5 +1,5 @@
 -- The history rule of the code. Assumes nothing.
-use mathlib.Core.Path.{_≡_, refl, sym, ap, ap₂, _∙_, subst, subst₂}
+use mathlib.Core.Path.{_≡_, refl, sym, ap, _∙_, subst, subst₂}
 use mathlib.Core.Bool.{false}
 use mathlib.Core.List.{List, _∷_, _++_}
 use Prim.Native.Nat.{ℕ}
@@ -19,8 +19,7 @@ use Rattle.history_laws.specs.History.{
   moduleAfter,
   bookOf,
   emptyBook,
-  NotRefused,
-  Restored,
+  Returns,
   HistoryRule,
 }
 use Rattle.history_laws.proofs.Rule.{history-rule}
@@ -61,26 +60,27 @@ unfolding moduleAfter
 run-defined (none m) = refl
 run-defined (next {es = es} s r) = ap (λ (x : Called). moduleAfter (x .after) es) (step-defined s) ∙ run-defined r
 
--- in every run of the six functions from a format that is done, whose list of events is allowed: a recovery with the same keys is not
--- refused, and one that is done restores what the book of the list up to it says
-pub code-history : (f : Formatted) → f .answer ≡ Done 0 0 → (m : Module) (es rest : List Event) → Run (formatAfter f) es m
+-- in every run of the six functions from a format that is done, whose list of events is allowed, a recovery with the same keys returns to
+-- what the book of the list up to it says
+pub code-history : (x : Formatted) → x .answer ≡ Done 0 0 → (m : Module) (es rest : List Event) → Run (formatAfter x) es m
     → (r : Recovered) → recoverBefore r ≡ m
-    → let keys = f .args .1 .0 .now in let h = f .args .0 in
+    → let keys = x .args .1 .1 .0 .now in let h = x .args .0 in let f = x .args .1 .0 in
     r .args .0 .now ≡ keys → AreBytes keys
-    → Allowed keys false (formatAfter f) (es ++ (recovers keys (r .args .1 .1 .1 .1 .0) ∷ rest))
-    → NotRefused (r .answer)
-    × ((k sum : ℕ) → r .answer ≡ Done k sum → Restored keys h (bookOf (formatAfter f) emptyBook es) (recoverAfter r) sum)
+    → Allowed keys false (formatAfter x) (es ++ (recovers keys (r .args .1 .1 .1 .1 .0) ∷ rest))
+    → Returns keys h f (bookOf (formatAfter x) emptyBook es) (recoverBefore r) (record { answer = r .answer; after = recoverAfter r })
 unfolding HistoryRule
-code-history f done m es rest run r here same plain ok =
-    let keys = f .args .1 .0 .now in
-    let h = f .args .0 in
+code-history x done m es rest run r here same plain ok =
+    let keys = x .args .1 .1 .0 .now in
+    let h = x .args .0 in
+    let f = x .args .1 .0 in
     let allowance = r .args .1 .1 .1 .1 .0 in
-    let first = format keys h (formatBefore f) in
-    let start : first .after ≡ formatAfter f = ap (λ (x : Called). x .after) (sym (f .contract)) in
-    let last : moduleAfter (first .after) es ≡ recoverBefore r = ap (λ (x : Module). moduleAfter x es) start ∙ run-defined run ∙ sym here in
-    let end : recover keys allowance (moduleAfter (first .after) es) ≡ record { answer = r .answer; after = recoverAfter r } =
-    ap₂ {C = Called} (λ (k : List ℕ) (x : Module). recover k allowance x) (sym same) last ∙ sym (r .contract) in
-    subst₂ (λ (x : Called) (s : Module). NotRefused (x .answer)
-    × ((k sum : ℕ) → x .answer ≡ Done k sum → Restored keys h (bookOf s emptyBook es) (x .after) sum)) end start
-    (history-rule keys h (formatBefore f) es rest allowance plain (ap (λ (x : Called). x .answer) (sym (f .contract)) ∙ done)
-    (subst (λ (s : Module). Allowed keys false s (es ++ (recovers keys allowance ∷ rest))) (sym start) ok))
+    let first = format keys h f (formatBefore x) in
+    let start : first .after ≡ formatAfter x = ap (λ (c : Called). c .after) (sym (x .contract)) in
+    let last : moduleAfter (formatAfter x) es ≡ recoverBefore r = run-defined run ∙ sym here in
+    let end : recover keys allowance (recoverBefore r) ≡ record { answer = r .answer; after = recoverAfter r } =
+    ap (λ (k : List ℕ). recover k allowance (recoverBefore r)) (sym same) ∙ sym (r .contract) in
+    subst₂ (λ (n : Module) (c : Called). Returns keys h f (bookOf (formatAfter x) emptyBook es) n c) last
+    (ap (recover keys allowance) last ∙ end)
+    (subst (λ (s : Module). Returns keys h f (bookOf s emptyBook es) (moduleAfter s es) (recover keys allowance (moduleAfter s es))) start
+    (history-rule keys h f (formatBefore x) es rest allowance plain (ap (λ (c : Called). c .answer) (sym (x .contract)) ∙ done)
+    (subst (λ (s : Module). Allowed keys false s (es ++ (recovers keys allowance ∷ rest))) (sym start) ok)))

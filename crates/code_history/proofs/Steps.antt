@@ -32,19 +32,19 @@ pub record Call {n : ℕ} (ps : List (PK n)) (r : RK n) (Contract : Out n ps r) 
   pub exit : AtExit (endedOf n ps r) lifetimes
   pub contract : Contract lifetimes args answer exit
 
--- format(depth, keys, control, array, cache)
+-- format(depth, family, keys, control, array, cache)
 abbrev pub Formatted : Type 0
 Formatted = Call format-kinds.ps format-kinds.r format-contract.Learnt
 
 module _ (c : Formatted) where
   abbrev pub formatBefore : Module
-  formatBefore = buffers (c .args .1 .1 .1 .0 .now) (c .args .1 .1 .0 .now) (c .args .1 .1 .1 .1 .0 .now)
+  formatBefore = buffers (c .args .1 .1 .1 .1 .0 .now) (c .args .1 .1 .1 .0 .now) (c .args .1 .1 .1 .1 .1 .0 .now)
 
   abbrev pub formatAfter : Module
-  formatAfter = buffers (c .exit .1 .1 .1 .0 .now) (c .exit .1 .1 .0 .now) (c .exit .1 .1 .1 .1 .0 .now)
+  formatAfter = buffers (c .exit .1 .1 .1 .1 .0 .now) (c .exit .1 .1 .1 .0 .now) (c .exit .1 .1 .1 .1 .1 .0 .now)
 
   abbrev pub formatEvent : Event
-  formatEvent = formats (c .args .1 .0 .now) (c .args .0)
+  formatEvent = formats (c .args .1 .1 .0 .now) (c .args .0) (c .args .1 .0)
 
 -- read(keys, control, array, cache, line, out, allowance)
 abbrev pub ReadLine : Type 0

@@ -1,6 +1,7 @@
 -- Laws of the control record: its fields, the parts of its validity, its places one by one. Assumes nothing.
 use mathlib.Core.Path.{_≡_, refl, sym, ap, ap₂, _∙_, subst}
-use mathlib.Core.Bool.{Bool, true, false, _&&_, _||_, not, and-eq-true-iff}
+use mathlib.Core.Logic.{_⊎_, inl, inr}
+use mathlib.Core.Bool.{Bool, true, false, _&&_, _||_, not, cond, and-eq-true-iff}
 use mathlib.Core.List.{List, [], _∷_, _++_}
 use Prim.Native.Nat.{ℕ, zero, suc, _+_, _-_, _*_, _≤_, _<_}
 use native.Mathlib.Nat.{add-zero, zero-add, add-assoc, suc-add, not-suc-le-zero, le-of-suc-le-suc}
@@ -11,11 +12,13 @@ use lib.ListN.{length, getD, set, take, drop, length-append}
 use lib.Seq.{take-take, drop-drop, getD-drop}
 use Rattle.words.specs.Bytes.{number, fromLe, toLe, part, put}
 use Rattle.words.proofs.Digits.{length-digits}
+use Rattle.words.proofs.Order.{eq-or-not}
 use Rattle.words.proofs.Parts.{part-part, length-put, put-one, put-three}
 use Rattle.words.proofs.Puts.{getD-part, put-comm}
 use Rattle.memory_map.specs.Map.{pages, cells}
-use Rattle.control.specs.Control.{controlLength, mark, depth, root, count, newRoot, Cell, queued, places, queue, inMap}
-use Rattle.control.specs.Control.{turnAt, turnCount, turnPage, turnMask, turnBytes, isOpen, otherOpen, validHead, validTurn, valid}
+use Rattle.control.specs.Control.{controlLength, markOf, mark, family, depth, root, count, newRoot, Cell, queued, places}
+use Rattle.control.specs.Control.{queue, inMap, turnAt, turnCount, turnPage, turnMask, turnBytes, isOpen, otherOpen}
+use Rattle.control.specs.Control.{validMark, validHead, validTurn, valid}
 
 pub depth-at : (k : List ℕ) → depth k ≡ getD k 5 0
 unfolding depth
@@ -35,30 +38,102 @@ new-root-at k = refl
 
 -- ---- the head
 
-pub mark-bytes : fromLe (part (80 ∷ 73 ∷ 71 ∷ 75 ∷ []) 0 4) ≡ mark
-unfolding number
+-- ---- the mark, and the family that it tells
+
+pub mark-at : (k : List ℕ) → mark k ≡ fromLe (part k 0 4)
+unfolding mark
+mark-at k = refl
+
+pub mark-bytes : fromLe (part (80 ∷ 73 ∷ 71 ∷ 75 ∷ []) 0 4) ≡ markOf 0
+unfolding number markOf
 mark-bytes = refl
 
--- the first part that is wrong
-module _ (k : List ℕ) where
-  pub wrong-mark : (fromLe (part k 0 4) ≡ mark → ⊥) → false ≡ validHead k
-  unfolding validHead
-  wrong-mark p = rw (ne-eqb (fromLe (part k 0 4)) mark p)
+pub other-mark-bytes : fromLe (part (80 ∷ 73 ∷ 71 ∷ 78 ∷ []) 0 4) ≡ markOf 1
+unfolding number markOf
+other-mark-bytes = refl
 
-  module _ (m : fromLe (part k 0 4) ≡ mark) where
+apart : markOf 0 ≡ markOf 1 → ⊥
+unfolding markOf
+apart e = omega arith
+
+module _ (k : List ℕ) where
+  pub family-one : mark k ≡ markOf 1 → family k ≡ 1
+  unfolding family
+  family-one e = rw (eq-eqb (mark k) (markOf 1) e)
+
+  pub family-zero : (mark k ≡ markOf 1 → ⊥) → family k ≡ 0
+  unfolding family
+  family-zero e = rw (ne-eqb (mark k) (markOf 1) e)
+
+  pub family-small : family k ≤ 1
+  unfolding family
+  family-small = go (eqb (mark k) (markOf 1))
+    where
+      go : (b : Bool) → cond b 1 0 ≤ 1
+      go true = lit≤ tt
+      go false = lit≤ tt
+
+  by-family : {f : ℕ} → family k ≡ f → validMark k ≡ eqb (mark k) (markOf f)
+  unfolding validMark
+  by-family e = ap (λ (f : ℕ). eqb (mark k) (markOf f)) e
+
+  -- either mark is right, and no other
+  pub mark-right : mark k ≡ markOf 0 → true ≡ validMark k
+  mark-right e = sym (by-family (family-zero (λ z. apart (sym e ∙ z))) ∙ eq-eqb (mark k) (markOf 0) e)
+
+  pub mark-other : (mark k ≡ markOf 0 → ⊥) → eqb (mark k) (markOf 1) ≡ validMark k
+  mark-other n = go (eq-or-not (mark k) (markOf 1))
+    where
+      go : (mark k ≡ markOf 1) ⊎ (mark k ≡ markOf 1 → ⊥) → eqb (mark k) (markOf 1) ≡ validMark k
+      go (inl e) = sym (by-family (family-one e))
+      go (inr e) = ne-eqb (mark k) (markOf 1) e ∙ sym (by-family (family-zero e) ∙ ne-eqb (mark k) (markOf 0) n)
+
+-- the record of a family: its mark is right, and tells the family
+pub record Marked (k : List ℕ) (f : ℕ) : Type 0 where
+  pub right : validMark k ≡ true
+  pub told : family k ≡ f
+
+pub marked : (k : List ℕ) (f : ℕ) → f ≤ 1 → mark k ≡ markOf f → Marked k f
+marked k zero p e = record { right = sym (mark-right k e); told = family-zero k (λ z. apart (sym e ∙ z)) }
+marked k (suc zero) p e =
+    record { right = by-family k (family-one k e) ∙ eq-eqb (mark k) (markOf 1) e; told = family-one k e }
+marked k (suc (suc f)) p e = absurd (omega arith)
+
+-- records with the same first bytes
+module _ (k t : List ℕ) (e : part k 0 7 ≡ part t 0 7) where
+  same-mark : mark k ≡ mark t
+  unfolding mark
+  same-mark = ap fromLe (sym (take-take 4 7 k (lit≤ tt)) ∙ ap (take 4) e ∙ take-take 4 7 t (lit≤ tt))
+
+  pub same-family : family k ≡ family t
+  unfolding family
+  same-family = ap (λ (n : ℕ). cond (eqb n (markOf 1)) 1 0) same-mark
+
+  same-right : validMark k ≡ validMark t
+  unfolding validMark
+  same-right = ap₂ (λ (n f : ℕ). eqb n (markOf f)) same-mark same-family
+
+-- ---- the head: the first part that is wrong
+
+module _ (k : List ℕ) where
+  pub wrong-mark : validMark k ≡ false → false ≡ validHead k
+  unfolding validHead
+  wrong-mark p = rw p
+
+  module _ (m : validMark k ≡ true) where
     pub wrong-first : (getD k 4 0 ≡ 1 → ⊥) → false ≡ validHead k
     unfolding validHead
-    wrong-first p = rw (eq-eqb (fromLe (part k 0 4)) mark m, ne-eqb (getD k 4 0) 1 p)
+    wrong-first p = rw (m, ne-eqb (getD k 4 0) 1 p)
 
     module _ (f : getD k 4 0 ≡ 1) where
       pub wrong-second : (getD k 6 0 ≡ 1 → ⊥) → false ≡ validHead k
       unfolding validHead
-      wrong-second p = rw (eq-eqb (fromLe (part k 0 4)) mark m, eq-eqb (getD k 4 0) 1 f, ne-eqb (getD k 6 0) 1 p)
+      wrong-second p = rw (m, eq-eqb (getD k 4 0) 1 f, ne-eqb (getD k 6 0) 1 p)
 
       module _ (s : getD k 6 0 ≡ 1) where
         right-start : validHead k ≡ leb 1 (getD k 5 0) && leb (getD k 5 0) 3 && leb (getD k 15 0) 8
         unfolding validHead depth count
-        right-start = rw (eq-eqb (fromLe (part k 0 4)) mark m, eq-eqb (getD k 4 0) 1 f, eq-eqb (getD k 6 0) 1 s)
+        right-start = rw (m, eq-eqb (getD k 4 0) 1 f, eq-eqb (getD k 6 0) 1 s)
 
         pub depth-low : getD k 5 0 < 1 → false ≡ validHead k
         depth-low p = sym (right-start ∙ ap (λ (b : Bool). b && leb (getD k 5 0) 3 && leb (getD k 15 0) 8) (lt-leb 1 (getD k 5 0) p))
@@ -81,7 +156,7 @@ pub record Head (k : List ℕ) : Type 0 where
 pub right-head : {k : List ℕ} → validHead k ≡ true → Head k
 unfolding validHead
 right-head {k} e =
-    let start = eqb (fromLe (part k 0 4)) mark && eqb (getD k 4 0) 1 && eqb (getD k 6 0) 1 in
+    let start = validMark k && eqb (getD k 4 0) 1 && eqb (getD k 6 0) 1 in
     let last = and-eq-true-iff (start && leb 1 (depth k) && leb (depth k) 3) (leb (count k) 8) .0 e in
     let high = and-eq-true-iff (start && leb 1 (depth k)) (leb (depth k) 3) .0 (last .0) in
     let low = and-eq-true-iff start (leb 1 (depth k)) .0 (high .0) in
@@ -225,11 +300,11 @@ module _ (k t : List ℕ) where
   pub same-head : part k 0 7 ≡ part t 0 7 → count t ≤ 8 → validHead k ≡ true → validHead t ≡ true
   unfolding validHead depth
   same-head e h v =
-      let start = eqb (fromLe (part k 0 4)) mark && eqb (getD k 4 0) 1 && eqb (getD k 6 0) 1 && leb 1 (depth k) && leb (depth k) 3 in
-      let same : start ≡ eqb (fromLe (part t 0 4)) mark && eqb (getD t 4 0) 1 && eqb (getD t 6 0) 1 && leb 1 (depth t) && leb (depth t) 3 =
-      ap₂ (λ (l : List ℕ) (x : ℕ). eqb (fromLe l) mark && eqb x 1 && eqb (getD k 6 0) 1 && leb 1 (depth k) && leb (depth k) 3)
-      (sym (take-take 4 7 k (lit≤ tt)) ∙ ap (take 4) e ∙ take-take 4 7 t (lit≤ tt)) (front 7 e 4 (lit< tt))
-      ∙ ap₂ (λ (x y : ℕ). eqb (fromLe (part t 0 4)) mark && eqb (getD t 4 0) 1 && eqb x 1 && leb 1 y && leb y 3) (front 7 e 6 (lit< tt))
+      let start = validMark k && eqb (getD k 4 0) 1 && eqb (getD k 6 0) 1 && leb 1 (depth k) && leb (depth k) 3 in
+      let same : start ≡ validMark t && eqb (getD t 4 0) 1 && eqb (getD t 6 0) 1 && leb 1 (depth t) && leb (depth t) 3 =
+      ap₂ (λ (m : Bool) (x : ℕ). m && eqb x 1 && eqb (getD k 6 0) 1 && leb 1 (depth k) && leb (depth k) 3)
+      (same-right k t e) (front 7 e 4 (lit< tt))
+      ∙ ap₂ (λ (x y : ℕ). validMark t && eqb (getD t 4 0) 1 && eqb x 1 && leb 1 y && leb y 3) (front 7 e 6 (lit< tt))
       (front 7 e 5 (lit< tt)) in
       ap₂ (λ (a b : Bool). a && b) (sym same ∙ and-eq-true-iff start (leb (count k) 8) .0 v .0) (le-leb (count t) 8 h)
 

@@ -1,7 +1,8 @@
--- The persistent control record (the paper's keep): mark, depth, root, the queue of a pending batch, and the section of an open page.
+-- The persistent control record (the paper's keep): mark, depth, root, the queue of a pending batch, and the section of an open page. The
+-- mark tells the module's family: 0 has a phase byte beside each line, 1 has none.
 -- Assumes nothing.
 use Prim.Native.Nat.{ℕ, zero, suc, _+_, _*_}
-use mathlib.Core.Bool.{Bool, true, _&&_, _||_, not}
+use mathlib.Core.Bool.{Bool, true, _&&_, _||_, not, cond}
 use mathlib.Core.List.{List, [], _∷_, _++_}
 use lib.Dec.{ltb, leb, eqb}
 use lib.ListN.{getD, replicate}
@@ -11,9 +12,10 @@ use Rattle.memory_map.specs.Map.{pages, cells}
 abbrev pub controlLength : ℕ
 controlLength = 681
 
--- `PIGK`, as a number
-abbrev pub mark : ℕ
-mark = 0x4b474950
+-- the mark of each family: `PIGK` and `PIGN`, as numbers
+unfoldable pub markOf : ℕ → ℕ
+markOf zero = 0x4b474950
+markOf (suc f) = 0x4e474950
 
 -- The fields, and where they are
 
@@ -26,6 +28,12 @@ rootAt = 7
 -- the count, and the new root after it
 abbrev pub countAt : ℕ
 countAt = 15
+
+unfoldable pub mark : List ℕ → ℕ
+mark k = fromLe (part k 0 4)
+
+unfoldable pub family : List ℕ → ℕ
+family k = cond (eqb (mark k) (markOf 1)) 1 0
 
 unfoldable pub depth : List ℕ → ℕ
 depth k = getD k depthAt 0
@@ -93,9 +101,13 @@ unfoldable pub inMap : ℕ → List Cell → Bool
 inMap n [] = true
 inMap n (c ∷ cs) = ltb (c .number) n && inMap n cs
 
+-- the mark is that of a family
+unfoldable pub validMark : List ℕ → Bool
+validMark k = eqb (mark k) (markOf (family k))
+
 unfoldable pub validHead : List ℕ → Bool
 validHead k =
-    eqb (fromLe (part k 0 4)) mark && eqb (getD k 4 0) 1 && eqb (getD k 6 0) 1
+    validMark k && eqb (getD k 4 0) 1 && eqb (getD k 6 0) 1
     && leb 1 (depth k) && leb (depth k) 3 && leb (count k) 8
 
 unfoldable pub validTurn : List ℕ → Bool
@@ -108,5 +120,5 @@ abbrev pub pending : List ℕ → Bool
 pending k = ltb 0 (count k)
 
 -- what format leaves
-unfoldable pub freshControl : ℕ → ℕ → List ℕ
-freshControl h r = toLe 4 mark ++ (1 ∷ h ∷ 1 ∷ []) ++ toLe 8 r ++ replicate 666 0
+unfoldable pub freshControl : ℕ → ℕ → ℕ → List ℕ
+freshControl h f r = toLe 4 (markOf f) ++ (1 ∷ h ∷ 1 ∷ []) ++ toLe 8 r ++ replicate 666 0

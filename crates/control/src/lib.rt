@@ -9,6 +9,7 @@ ghost use Rattle.control.specs.Control.{
   places,
   placeAt,
   inMap,
+  family as familyOf,
   depth as depthOf,
   root as rootOf,
   count as countOf,
@@ -18,6 +19,7 @@ ghost use Rattle.control.specs.Control.{
   turnBytes,
   isOpen,
   otherOpen,
+  validMark,
   validHead,
   validTurn,
   valid as isValid,
@@ -49,6 +51,17 @@ fn wide(x: u8) -> usize
     ensures { λ r. ⌜ (r ≡ x) × (r < 256) ⌝ }
 {
     x as usize
+}
+
+// The family that the mark tells: 1 for modules without phase bytes, else 0.
+pub fn family(control: &[u8]) -> u64
+    requires { ⌜ length (now control) ≡ controlLength ⌝ }
+    ensures { λ r. ⌜ r ≡ familyOf (now (control .entry)) ⌝ }
+{
+    if load32(control, 0) == load32(b"PIGN", 0) {
+        return 1;
+    }
+    0
 }
 
 pub fn depth(control: &[u8]) -> usize
@@ -120,12 +133,24 @@ pub fn other_open(control: &[u8], p: u64) -> bool
     load64(control, TURN_PAGE) != p
 }
 
+// Whether the mark is that of a family.
+fn valid_mark(control: &[u8]) -> bool
+    requires { ⌜ length (now control) ≡ controlLength ⌝ }
+    ensures { λ r. ⌜ r ≡ validMark (now (control .entry)) ⌝ }
+{
+    let mark = load32(control, 0);
+    if mark == load32(b"PIGK", 0) {
+        return true;
+    }
+    mark == load32(b"PIGN", 0)
+}
+
 // Whether mark, counts and depth are right.
 fn valid_head(control: &[u8]) -> bool
     requires { ⌜ length (now control) ≡ controlLength ⌝ }
     ensures { λ r. ⌜ r ≡ validHead (now (control .entry)) ⌝ }
 {
-    if load32(control, 0) != load32(b"PIGK", 0) {
+    if !valid_mark(control) {
         return false;
     }
     if control[4] != 1 {

@@ -15,7 +15,7 @@ use Rattle.slot_map.specs.Slots.{levelOf, cacheLength}
 use Rattle.slot_map.proofs.Laws.{belongs-node, level-within}
 use Rattle.counter.specs.Counter.{major, minors, counterBlock}
 use Rattle.counter.proofs.Laws.{length-counterBlock}
-use Rattle.control.specs.Control.{isOpen}
+use Rattle.control.specs.Control.{family, isOpen}
 use Rattle.cache.specs.Cache.{withSlot, cellContent}
 use Rattle.cache.proofs.Owners.{rest, none as past}
 use Rattle.node.proofs.Laws.{slot-put, cell-room}
@@ -153,22 +153,22 @@ module _ (h : ℕ) (keys : List ℕ) (m : Media) (os : List ℕ) where
 
       -- the owner's block b lies in cell i, and its minors ms are brought forward in cur
       module _ (some· : owner s ≡ 0 → ⊥) {i : ℕ} {b ms cur : List ℕ} {j t : ℕ} (cell : i ≡ cellOf h (node 0 (owner s - 1)))
-          (block : b ≡ cellContent a i) (unpacked : ms ≡ minors b) {ma : ℕ} (majored : ma ≡ major b)
-          (f : Forwarding (sourceIs keys a ma) (64 * (owner s - 1)) ms sum cur j t) where
+          (block : b ≡ cellContent a i) (unpacked : ms ≡ minors b) {ma g : ℕ} (majored : ma ≡ major b) (told : g ≡ family k)
+          (f : Forwarding (sourceIs g keys a ma) (64 * (owner s - 1)) ms sum cur j t) where
         -- the line after those that are brought forward
         abbrev line : ℕ
         line = 64 * (owner s - 1) + j
 
-        as-source : {x : Forwarded} → forwardPage k (sourceIs keys a ma) (owner s - 1) ms sum ≡ x
+        as-source : {x : Forwarded} → forwardPage k (sourceIs g keys a ma) (owner s - 1) ms sum ≡ x
             → forwardPage k (sourceOf keys m (major b)) (owner s - 1) ms sum ≡ x
         as-source e =
-            ap (λ (n : ℕ). forwardPage k (sourceIs keys a n) (owner s - 1) ms sum) (sym majored) ∙ e
+            ap₂ {C = Forwarded} (λ (i n : ℕ). forwardPage k (sourceIs i keys a n) (owner s - 1) ms sum) (sym told) (sym majored) ∙ e
 
         pub rebuilding-fails : {n : ℕ} → n ≡ cond (isOpen k (owner s - 1)) 0 64 → j < n → {v : ℕ}
-            → v ≡ asByte (lineStep (sourceIs keys a ma) line (getD cur j 0)) → 128 ≤ v → blocksFrom 0 first 0 ≡ failed (v - 128) line
+            → v ≡ asByte (lineStep (sourceIs g keys a ma) line (getD cur j 0)) → 128 ≤ v → blocksFrom 0 first 0 ≡ failed (v - 128) line
         rebuilding-fails bound q {v} e z =
             r .rest ∙ blocks-fails s p c sum some· (block ∙ ap (cellContent a) cell) unpacked (v - 128) line
-            (as-source (page-fails k (sourceIs keys a ma) (owner s - 1) ms sum f bound q e z))
+            (as-source (page-fails k (sourceIs g keys a ma) (owner s - 1) ms sum f bound q e z))
 
         pub rebuilding-next : {n : ℕ} → n ≡ cond (isOpen k (owner s - 1)) 0 64 → j ≤ n → n ≤ j → j ≤ 64 → {d : List ℕ}
             → d ≡ withSlot c s (owner s) 1 (counterBlock ma cur) → length d ≡ length c → Rebuilding first d t (s + 1)
@@ -178,5 +178,5 @@ module _ (h : ℕ) (keys : List ℕ) (m : Media) (os : List ℕ) where
               few = omega (arith, r .few, f .least);
               full = l ∙ r .full;
               rest = r .rest ∙ blocks-next s p c sum some· (block ∙ ap (cellContent a) cell) unpacked
-                  (as-source (page-all k (sourceIs keys a ma) (owner s - 1) ms sum f bound q all)) majored e;
+                  (as-source (page-all k (sourceIs g keys a ma) (owner s - 1) ms sum f bound q all)) majored e;
             }

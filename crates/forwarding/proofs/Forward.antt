@@ -2,7 +2,7 @@
 use mathlib.Core.Path.{_≡_, refl, sym, ap, ap₂, _∙_}
 use mathlib.Core.Bool.{Bool, true, false, cond}
 use mathlib.Core.List.{List, []}
-use Prim.Native.Nat.{ℕ, suc, _+_, _-_, _*_, _≤_, _<_}
+use Prim.Native.Nat.{ℕ, zero, suc, _+_, _-_, _*_, _≤_, _<_}
 use native.Mathlib.Nat.{add-zero, le-refl}
 use native.Mathlib.Numerals.{add-one}
 use native.Mathlib.Omega.{arith}
@@ -13,8 +13,13 @@ use borrow.Author.Tests.{leb-true, le-leb, lt-leb}
 use Rattle.words.proofs.Digits.{Below, below-set}
 use Rattle.counter.specs.Counter.{forward}
 use Rattle.counter.proofs.Laws.{forward-ge, forward-le}
+use Rattle.candidates.specs.Candidates.{choice}
+use Rattle.candidates.specs.declared.Choice.{Choice}
+use Rattle.candidates.specs.declared.Choice.the-variants.{None, Only, Several}
+use Rattle.candidates.proofs.Choices.{OnlyIs, choice-near}
 use Rattle.control.specs.Control.{isOpen}
-use Rattle.calls.specs.Recovery.{Step, to, bad, byPhase, Source, lineStep, phaseByte}
+use Rattle.cache.specs.Cache.{cellBytes}
+use Rattle.calls.specs.Recovery.{Step, to, bad, byPhase, byChoice, Source, stepOf, lineStep, phaseByte}
 use Rattle.calls.specs.Recovery.{Forwarded, soFar, failed, onward, stepped, forwardFrom, forwardPage}
 use Rattle.forwarding.specs.Rebuild.{asByte}
 
@@ -34,8 +39,37 @@ phase-within s p = go (leb p 3) (leb (forward s p) 127) refl
     go true false e = tt
     go false d e = tt
 
+choice-within : (s : ℕ) (x : Choice) → OnlyIs (λ v. (s ≤ v) × (v ≤ s + 3) × (v < 128)) x → Within s (byChoice x)
+unfolding Within byChoice OnlyIs
+choice-within s None p = tt
+choice-within s (Only v) p = p
+choice-within s Several p = tt
+
 line-within : (x : Source) (n s : ℕ) → Within s (lineStep x n s)
-line-within x n s = phase-within s (phaseByte (x .array) n)
+unfolding stepOf
+line-within x n s = go (x .family)
+  where
+    go : (f : ℕ) → Within s (stepOf f x n s)
+    go zero = phase-within s (phaseByte (x .array) n)
+    go (suc f) = choice-within s _ (choice-near (x .keys) (cellBytes (x .array) n) n (x .major) s)
+
+-- how the code of `step` ends, by the family
+module _ (x : Source) (n s : ℕ) where
+  pub phase-step : x .family ≡ 0 → {p r : ℕ} → r ≡ asByte (byPhase s p) → p ≡ phaseByte (x .array) n → r ≡ asByte (lineStep x n s)
+  unfolding stepOf
+  phase-step z e q = e ∙ ap (λ (i : ℕ). asByte (byPhase s i)) q ∙ ap (λ (f : ℕ). asByte (stepOf f x n s)) (sym z)
+
+  pub choice-step : (x .family ≡ 0 → ⊥) → {b : List ℕ} {y : Choice} {r : ℕ} → r ≡ asByte (byChoice y) → b ≡ cellBytes (x .array) n
+      → y ≡ choice (x .keys) b n (x .major) s → r ≡ asByte (lineStep x n s)
+  unfolding stepOf
+  choice-step z {b} {y} {r} e p q = go (x .family) z
+    where
+      cell-choice : y ≡ choice (x .keys) (cellBytes (x .array) n) n (x .major) s
+      cell-choice = q ∙ ap (λ (l : List ℕ). choice (x .keys) l n (x .major) s) p
+
+      go : (f : ℕ) → (f ≡ 0 → ⊥) → r ≡ asByte (stepOf f x n s)
+      go zero w = absurd (w refl)
+      go (suc f) w = e ∙ ap (λ (c : Choice). asByte (byChoice c)) cell-choice
 
 -- how the code of `forwarded` ends
 module _ (s p : ℕ) where

@@ -14,8 +14,8 @@ use Rattle.forwarding.specs.declared.Counters.the-variants.{Sum, Failed}
 pub record Placed (h : ℕ) (os : List ℕ) : Type 0 where
   pub belong : (s i : ℕ) → s < slots h → getD os s 0 ≡ suc i → belongs h s (suc i) ≡ true
 
-abbrev pub sourceIs : List ℕ → List ℕ → ℕ → Source
-sourceIs keys a ma = record { keys = keys; array = a; major = ma }
+abbrev pub sourceIs : ℕ → List ℕ → List ℕ → ℕ → Source
+sourceIs f keys a ma = record { family = f; keys = keys; array = a; major = ma }
 
 -- a step as a byte: the new minor, or 128 and the refusal
 unfoldable pub asByte : Step → ℕ

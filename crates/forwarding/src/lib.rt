@@ -8,8 +8,9 @@ ghost use Rattle.control.specs.Control.{controlLength, isOpen};
 ghost use Rattle.cache.specs.Cache.{withSlot};
 ghost use Rattle.node.specs.Sized.{Sized};
 ghost use Rattle.journal.specs.Journal.{media};
-ghost use Rattle.calls.specs.Recovery.{phaseByte, byPhase, rebuildBlocks};
-ghost use Rattle.forwarding.specs.Rebuild.{Placed, asByte, counted};
+ghost use Rattle.calls.specs.Recovery.{byPhase, byChoice, lineStep, rebuildBlocks};
+ghost use Rattle.forwarding.specs.Rebuild.{Placed, sourceIs, asByte, counted};
+use candidates::Choice;
 
 // What bringing the counters forward gives: the sum of the steps, or a refusal and the line that ends it.
 pub enum Counters {
@@ -21,6 +22,10 @@ pub enum Counters {
 const BAD_PHASE: u8 = 128 + 28;
 
 const BAD_MINOR: u8 = 128 + 32;
+
+const NO_CANDIDATE: u8 = 128 + 33;
+
+const MORE_CANDIDATES: u8 = 128 + 34;
 
 // A minor brought forward to a phase; a phase over 3 fails, and a minor past 127.
 fn forwarded(minor: u8, phase: u8) -> u8
@@ -37,12 +42,26 @@ fn forwarded(minor: u8, phase: u8) -> u8
     new as u8
 }
 
-// The step of a line whose stored minor this is: its new minor, or how it fails.
-fn step(array: &[u8], line: usize, minor: u8) -> u8
-    requires { ⌜ (minor < 128) × (72 * line + 72 ≤ length (now array)) ⌝ }
-    ensures { λ r. ⌜ r ≡ asByte (byPhase minor (phaseByte (now (array .entry)) line)) ⌝ }
+// The only candidate that fits; none fails, and several.
+fn only(choice: Choice) -> u8
+    ensures { λ r. ⌜ r ≡ asByte (byChoice choice) ⌝ }
 {
-    forwarded(minor, array[72 * line + 64])
+    match choice {
+        Choice::None => NO_CANDIDATE,
+        Choice::Only(v) => v,
+        Choice::Several => MORE_CANDIDATES,
+    }
+}
+
+// The step of a line whose stored minor this is: its new minor, or how it fails.
+fn step(family: u64, keys: &[u8], array: &[u8], line: usize, major: u64, minor: u8) -> u8
+    requires { ⌜ (length (now keys) ≡ 48) × ((minor < 128) × (72 * line + 72 ≤ length (now array))) ⌝ }
+    ensures { λ r. ⌜ r ≡ asByte (lineStep (sourceIs family (now (keys .entry)) (now (array .entry)) major) line minor) ⌝ }
+{
+    if family == 0 {
+        return forwarded(minor, array[72 * line + 64]);
+    }
+    only(candidates::choose(keys, node::cell(array, line), line as u64, major, minor))
 }
 
 // How many lines of a page are brought forward: all, or none where the page is open.
@@ -84,6 +103,7 @@ pub fn rebuild_counters(
         ≡ rebuildBlocks h (now (keys .entry)) (media (now (array .entry)) (now (control .entry))) 0 (take 4 owners)
         (now (image .entry)) 0 ⌝ }
 {
+    let family = control::family(control);
     let mut sum: u64 = 0;
     let mut number: u64 = 0;
     let mut line: u64 = 0;
@@ -100,7 +120,7 @@ pub fn rebuild_counters(
             let mut j = 0;
             while j < n {
                 let minor = minors[j];
-                let new = step(array, 64 * page + j, minor);
+                let new = step(family, keys, array, 64 * page + j, major, minor);
                 if 128 <= new {
                     number = (new - 128) as u64;
                     line = (64 * page + j) as u64;

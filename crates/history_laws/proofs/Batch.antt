@@ -13,8 +13,8 @@ use Rattle.words.proofs.Parts.{length-put, below-put}
 use Rattle.words.proofs.Puts.{part-put-before, part-put-same, drop-put}
 use Rattle.memory_map.specs.Map.{cells, arrayLength}
 use Rattle.slot_map.specs.Slots.{cacheLength}
-use Rattle.control.specs.Control.{Cell, controlLength, turnAt, depth, root, count, inMap, validHead}
-use Rattle.control.proofs.Laws.{root-at, front-count, front-root, same-depth, same-head}
+use Rattle.control.specs.Control.{family, Cell, controlLength, turnAt, depth, root, count, inMap, validHead}
+use Rattle.control.proofs.Laws.{root-at, front-count, front-root, same-depth, same-family, same-head}
 use Rattle.journal.specs.Journal.{Store, Media, media, storeAll, finish, batchStores, turnStores, made}
 use Rattle.journal.proofs.Each.{Each, each-take}
 use Rattle.journal.proofs.Laws.{length-finish, length-batch, made-all}
@@ -56,6 +56,7 @@ pub record Base (S : Setting) (u : Opening) (d : Media) : Type 0 where
   pub formed : Formed (arrayLength (S .h)) d
   pub right : validHead (d .control) ≡ true
   pub deep : depth (d .control) ≡ S .h
+  pub alike : family (d .control) ≡ S .family
   pub section : Section u (d .control)
 
 module _ {S : Setting} {t : Book} {u : Opening} {d : Media} {x : List Cell} {r : ℕ} (base : Base S u d)
@@ -121,6 +122,7 @@ module _ {S : Setting} {t : Book} {u : Opening} {d : Media} {x : List Cell} {r :
         formed = stores-kept (base .formed) within;
         right = same-head k (whole .control) (sym front) (omega (arith, zero-count)) (base .right);
         deep = deep ∙ base .deep;
+        alike = same-family (whole .control) k front ∙ base .alike;
         idle = zero-count;
         section = section-same (whole .control) (ap (drop turnAt) control ∙ section-rooted now r long ∙ section-now) deep (base .section);
         keeps = subst (Keeps S t u) (sym whole-array) (w .keeps);
@@ -206,6 +208,7 @@ module _ {S : Setting} {b : Book} {o : Opening} {t : Book} {u : Opening} {m : Mo
             formed = made-kept n (held .formed) all;
             right = same-head (m .control) (after .control) (sym front) (omega (arith, zero-count)) (was .right);
             deep = deep ∙ held .deep;
+            alike = same-family (after .control) (m .control) front ∙ was .alike;
             idle = zero-count;
             section = section-same (after .control) (same .2) deep (was .section);
             keeps = subst (Keeps S b o) (sym (same .0)) (was .keeps);
@@ -245,7 +248,7 @@ module _ {S : Setting} {b : Book} {o : Opening} {m : Module} (held : Holds S b o
         idle = idle;
         payload = w;
         control = m .control;
-        base = record { formed = held .formed; right = was .right; deep = held .deep; section = was .section };
+        base = record { formed = held .formed; right = was .right; deep = held .deep; alike = was .alike; section = was .section };
         number = length-batch x r (w .filled);
         dropped = λ n q. refl;
         kept = λ n. refl;
@@ -280,6 +283,7 @@ module _ {S : Setting} {b : Book} {o : Opening} {m : Module} (held : Holds S b o
             };
             right = same-head (m .control) with-section front (omega (arith, few-cells)) (settled-now held idle .right);
             deep = same-depth with-section (m .control) (sym front) ∙ held .deep;
+            alike = same-family with-section (m .control) (sym front) ∙ settled-now held idle .alike;
             section = said;
           };
           number = length-turn-stores x r s;

@@ -29,7 +29,7 @@ pub data-agree : (S : Setting) (T U : Tree) (n : ℕ) (text : List ℕ) → T .m
     → dataBytes S T n text ≡ dataBytes S U n text
 unfolding dataBytes
 data-agree S T U n text d e =
-    ap₂ (λ (ma mi : ℕ). let c = xorBytes text (pad (S .keys) n ma mi) in c ++ sideBytes (S .keys) c n ma mi) d e
+    ap₂ (λ (ma mi : ℕ). let c = xorBytes text (pad (S .keys) n ma mi) in c ++ sideBytes (S .family) (S .keys) c n ma mi) d e
 
 module _ (S : Setting) (T : Tree) (n : ℕ) (text : List ℕ) (full : length text ≡ 64) where
   pub length-cipher : length (cipherOf S T n text) ≡ 64
@@ -37,13 +37,13 @@ module _ (S : Setting) (T : Tree) (n : ℕ) (text : List ℕ) (full : length tex
 
   pub length-data : length (dataBytes S T n text) ≡ 72
   unfolding dataBytes
-  length-data = length-cell (S .keys) (cipherOf S T n text) n (T .major (pageOf n)) (T .count n) length-cipher
+  length-data = length-cell (S .family) (S .keys) (cipherOf S T n text) n (T .major (pageOf n)) (T .count n) length-cipher
 
 -- ---- the text
 
 -- a cell of these bytes, and a cache that has the line's counter
 module _ (S : Setting) (T : Tree) (n : ℕ) (a t : List ℕ) (full : length t ≡ 64) (row : part a (72 * n) 72 ≡ dataBytes S T n t) where
-  open Setting S using (keys)
+  open Setting S using (keys, family)
 
   abbrev cipher : List ℕ
   cipher = cipherOf S T n t
@@ -54,12 +54,12 @@ module _ (S : Setting) (T : Tree) (n : ℕ) (a t : List ℕ) (full : length t �
       sym (take-take 64 72 (drop (72 * n) a) (lit≤ tt)) ∙ ap (take 64) row ∙ take-at cipher (sideOf S T n t) 64 (length-cipher S T n t full)
 
   module _ (c : List ℕ) (ma : major (pageBlock c n) ≡ T .major (pageOf n)) (mi : lineMinor c n ≡ T .count n) where
-    pub side-ok : sideOk keys a c n ≡ true
+    pub side-ok : sideOk family keys a c n ≡ true
     unfolding sideOk dataBytes
     side-ok =
-        ap₂ (λ (l : List ℕ) (k : ℕ). sideFits keys l n k (lineMinor c n)) row ma
-        ∙ ap (sideFits keys (dataBytes S T n t) n (T .major (pageOf n))) mi
-        ∙ side-fits keys cipher n (T .major (pageOf n)) (T .count n) (length-cipher S T n t full)
+        ap₂ (λ (l : List ℕ) (k : ℕ). sideFits family keys l n k (lineMinor c n)) row ma
+        ∙ ap (sideFits family keys (dataBytes S T n t) n (T .major (pageOf n))) mi
+        ∙ side-fits family keys cipher n (T .major (pageOf n)) (T .count n) (length-cipher S T n t full)
 
     pub text-is : lineText keys a c n ≡ t
     unfolding lineText

@@ -16,7 +16,7 @@ use Rattle.memory_map.specs.Map.{pages, lines}
 use Rattle.answer.specs.declared.Answer.{Answer}
 use Rattle.answer.specs.declared.Answer.the-variants.{Done, Cut, Refused}
 use Rattle.answer.specs.Answer.{storesOf}
-use Rattle.control.specs.Control.{depth}
+use Rattle.control.specs.Control.{family, depth}
 use Rattle.journal.specs.Journal.{Store, batchStores}
 use Rattle.journal.proofs.Laws.{length-batch}
 use Rattle.calls.specs.Call.{Module, Called, storing, refuse, accessRefusal}
@@ -26,18 +26,19 @@ use Rattle.calls.specs.Turn.{turnRefusal, turnJudged, turn, pagePath, beforeFin
 use Rattle.calls.specs.Recovery.{recover}
 use Rattle.calls.specs.Format.{formatRefusal, formatted, format}
 use Rattle.calls.specs.DirtyPages.{listRefusal, listJudged}
-use Rattle.history_laws.specs.History.{Event, reads, writes, turns, recovers, lists, formats, powerCut, step, Book}
-use Rattle.history_laws.specs.History.{commits, entered, finishes, turnEntered, bookAfter, Keyed, Admitted, awaits, Allowed, moduleAfter, bookOf}
+use Rattle.history_laws.specs.History.{Event, reads, writes, turns, recovers, lists, formats, powerCut, step, Book, pendingMade}
+use Rattle.history_laws.specs.History.{commits, entered, finishes, turnEntered, bookAfter, Keyed, Admitted, awaits, Allowed}
+use Rattle.history_laws.specs.History.{moduleAfter, bookOf}
 use Rattle.call_laws.proofs.Judged.{access-accepted, turn-accepted}
 use Rattle.history_laws.proofs.Setting.{Setting, Opening}
 use Rattle.history_laws.proofs.Opening.{closed-line}
-use Rattle.history_laws.proofs.State.{Holds, Ready, settled-now}
+use Rattle.history_laws.proofs.State.{Holds, Ready, none-pending, settled-now, settled-holds}
 use Rattle.history_laws.proofs.Outcome.{Outcome, done, dropped, kept, cases}
 use Rattle.history_laws.proofs.Page.{Paged, path-is}
 use Rattle.history_laws.proofs.Reading.{Access, was, paged, walk, stores, minor-is, reads-blank, reads-text}
 use Rattle.history_laws.proofs.Writing.{read-outcome, Writable, cells, root-new, few-new, some-new, write-outcome, write-is}
 use Rattle.history_laws.proofs.Turned.{Turns, refused, went, turn-ends}
-use Rattle.history_laws.proofs.Recovery.{Ends, cut, rebuilt, ends}
+use Rattle.history_laws.proofs.Recovery.{Ends, cut, rebuilt, doubted, ends}
 use Rattle.history_laws.proofs.Refused.{Same, read-same, write-same, turn-same, recover-same}
 
 -- a write that makes 2m + 3 stores with stores enough is committed by a cut after more than m
@@ -159,7 +160,7 @@ module _ (S : Setting) where
             (writtenCache (depth (m .control)) keys n (walk w .cache)))) (eq-eqb (lineMinor (walk w .cache) n) 127 (minor-is w ∙ e))
           where
             batch : List Store
-            batch = writeStores (depth (m .control)) keys n text (walk w .cache) (walk w .cells)
+            batch = writeStores (depth (m .control)) (family (m .control)) keys n text (walk w .cache) (walk w .cells)
 
         module _ (room : b .count n < 127) where
           t : Writable w text
@@ -234,8 +235,20 @@ module _ (S : Setting) where
   unfolding awaits
   recover-own aw {b} {m} v allowance = go (ends (v .holds) allowance)
     where
-      go : Ends S b (recover keys allowance m) → Leads aw b (recover keys allowance m)
+      -- the pending stores stand
+      stands : Inv aw b (pendingMade m)
+      stands =
+          let h = v .holds in
+          record {
+            opening = v .opening;
+            holds = settled-holds (m .cache) (h .sized) (h .plain) (h .settled);
+            ready = λ z. subst (Ready S b (v .opening)) (sym (none-pending m (v .ready z .idle))) (v .ready z);
+          }
+
+      go : Ends S b m (recover keys allowance m) → Leads aw b (recover keys allowance m)
       go (cut n e x) = cut-inv aw (recover keys allowance m) n e x
+      go (doubted n x e same one nay) =
+          subst (λ (a : Answer). Inv (awaits aw a) b ((recover keys allowance m) .after)) (sym e) (subst (Inv aw b) (sym same) stands)
       go (rebuilt n t e s y) = subst (λ (a : Answer). Inv (awaits aw a) b ((recover keys allowance m) .after)) (sym e) (ready-inv y)
 
   -- ---- each event
@@ -290,13 +303,13 @@ module _ (S : Setting) where
     list-event idle out zero = ready-inv (v .ready idle)
     list-event idle out (suc k) = v
 
-    abbrev chosen : List ℕ → ℕ → ℕ → Called
-    chosen given d k = elim k as (λ z. Called) [ zero ↦ formatted given d | suc n ↦ refuse m (suc n) 0 0 ]
+    abbrev chosen : List ℕ → ℕ → ℕ → ℕ → Called
+    chosen given d f k = elim k as (λ z. Called) [ zero ↦ formatted given d f | suc n ↦ refuse m (suc n) 0 0 ]
 
-    format-event : (given : List ℕ) (d k : ℕ) → ((chosen given d k) .answer ≡ Done 0 0 → ⊥) → Leads aw b (chosen given d k)
+    format-event : (given : List ℕ) (d f k : ℕ) → ((chosen given d f k) .answer ≡ Done 0 0 → ⊥) → Leads aw b (chosen given d f k)
     unfolding formatted awaits
-    format-event given d zero nay = absurd (nay refl)
-    format-event given d (suc k) nay = v
+    format-event given d f zero nay = absurd (nay refl)
+    format-event given d f (suc k) nay = v
 
     power-event : (c : List ℕ) → length c ≡ length (m .cache) → Below 256 c
         → Inv true b (record { array = m .array; control = m .control; cache = c })
@@ -318,7 +331,7 @@ module _ (S : Setting) where
     event (turns given p allowance) ok = turn-event (ok .0) given p allowance (ok .1)
     event (recovers given allowance) ok = recover-event given allowance (ok .0)
     event (lists out) ok = list-event (ok .0) out (listRefusal (m .control) (m .cache) out)
-    event (formats given d) ok = format-event given d (formatRefusal given d m) (ok .2)
+    event (formats given d f) ok = format-event given d f (formatRefusal given d f m) (ok .2)
     event (powerCut c) ok = power-event c (ok .0) (record { at = ok .1 })
 
   -- ---- and a list of them

@@ -1,14 +1,15 @@
 -- The first state of a history: what a done format leaves. Assumes nothing.
-use mathlib.Core.Path.{_≡_, refl, sym, ap₂, _∙_}
+use mathlib.Core.Path.{_≡_, refl, sym, ap, ap₂, _∙_}
 use mathlib.Core.Bool.{Bool, true, _&&_}
-use Prim.Native.Nat.{ℕ, _^_, _≤_, _<_}
+use mathlib.Core.List.{List}
+use Prim.Native.Nat.{ℕ, zero, suc, _^_, _≤_, _<_}
 use native.Mathlib.Omega.{arith}
 use borrow.Author.Tests.{le-leb}
-use lib.Dec.{lit<}
-use Rattle.words.specs.Bytes.{number, digits}
+use lib.Dec.{lit<, leb}
+use Rattle.words.specs.Bytes.{digits}
 use Rattle.words.proofs.Digits.{number-exact}
-use Rattle.control.specs.Control.{depth, root, count, turnCount, validHead, freshControl}
-use Rattle.control.proofs.Laws.{turn-count-at, turn-none}
+use Rattle.control.specs.Control.{markOf, mark, depth, root, count, turnCount, validHead, freshControl}
+use Rattle.control.proofs.Laws.{Marked, marked, turn-count-at, turn-none}
 use Rattle.cache.specs.Cache.{emptyCache}
 use Rattle.cache.proofs.Laws.{length-empty, below-empty, owner-empty, formed-empty}
 use Rattle.journal.specs.Journal.{media}
@@ -22,25 +23,36 @@ use Rattle.history_laws.proofs.State.{RowOk, Settled, Ready, settled-ho
 
 -- ---- the control record of a format
 
-fresh-head : (h r : ℕ) → 1 ≤ h → h ≤ 3 → validHead (freshControl h r) ≡ true
-unfolding validHead freshControl depth count number digits
-fresh-head h r p q = ap₂ (λ (a b : Bool). a && b && true) (le-leb 1 h p) (le-leb h 3 q)
+mark-word : (f : ℕ) → markOf f < 2 ^ 32
+unfolding markOf
+mark-word zero = lit< tt
+mark-word (suc f) = lit< tt
 
-fresh-depth : (h r : ℕ) → depth (freshControl h r) ≡ h
+fresh-mark : (h f r : ℕ) → f ≤ 1 → Marked (freshControl h f r) f
+unfolding mark freshControl digits
+fresh-mark h f r p = marked (freshControl h f r) f p (number-exact 256 4 (markOf f) (lit< tt) (mark-word f))
+
+fresh-head : (h f r : ℕ) → 1 ≤ h → h ≤ 3 → f ≤ 1 → validHead (freshControl h f r) ≡ true
+unfolding validHead freshControl depth count digits
+fresh-head h f r p q s =
+    ap (λ (a : Bool). a && true && true && leb 1 h && leb h 3 && true) (fresh-mark h f r s .right)
+    ∙ ap₂ (λ (a b : Bool). a && b && true) (le-leb 1 h p) (le-leb h 3 q)
+
+fresh-depth : (h f r : ℕ) → depth (freshControl h f r) ≡ h
 unfolding depth freshControl digits
-fresh-depth h r = refl
+fresh-depth h f r = refl
 
-fresh-count : (h r : ℕ) → count (freshControl h r) ≡ 0
+fresh-count : (h f r : ℕ) → count (freshControl h f r) ≡ 0
 unfolding count freshControl digits
-fresh-count h r = refl
+fresh-count h f r = refl
 
-fresh-root : (h r : ℕ) → r < 2 ^ 64 → root (freshControl h r) ≡ r
+fresh-root : (h f r : ℕ) → r < 2 ^ 64 → root (freshControl h f r) ≡ r
 unfolding root freshControl digits
-fresh-root h r p = number-exact 256 8 r (lit< tt) p
+fresh-root h f r p = number-exact 256 8 r (lit< tt) p
 
-fresh-turn : (h r : ℕ) → turnCount (freshControl h r) ≡ 0
+fresh-turn : (h f r : ℕ) → turnCount (freshControl h f r) ≡ 0
 unfolding turnCount freshControl digits
-fresh-turn h r = refl
+fresh-turn h f r = refl
 
 -- ---- the state
 
@@ -50,36 +62,40 @@ module _ (S : Setting) where
   abbrev top : ℕ
   top = treeRoot S noWrites
 
+  abbrev k : List ℕ
+  k = freshControl h (S .family) top
+
   word : top < 2 ^ 64
   word = tree-tag S noWrites h 0
 
-  first-settled : Settled S emptyBook closed (media (freshArray keys h) (freshControl h top))
+  first-settled : Settled S emptyBook closed (media (freshArray keys h) (k))
   unfolding emptyBook RowOk isDone Says
   first-settled =
       record {
         formed = record {
           array-length = array-length keys h;
-          control-length = control-length h top;
+          control-length = control-length h (S .family) top;
           array-bytes = array-bytes keys h;
-          control-bytes = control-bytes h top (omega arith);
+          control-bytes = control-bytes h (S .family) top (omega arith);
         };
-        right = fresh-head h top low high;
-        deep = fresh-depth h top;
-        idle = fresh-count h top;
+        right = fresh-head h (S .family) top low high (S .known);
+        deep = fresh-depth h (S .family) top;
+        alike = fresh-mark h (S .family) top (S .known) .told;
+        idle = fresh-count h (S .family) top;
         section = record {
-          valid = sym (turn-none (freshControl h top) (sym (turn-count-at (freshControl h top)) ∙ fresh-turn h top));
-          says = fresh-turn h top;
+          valid = sym (turn-none (k) (sym (turn-count-at (k)) ∙ fresh-turn h (S .family) top));
+          says = fresh-turn h (S .family) top;
         };
         keeps = record { durable = formatted-durable S; rows = λ n p. (refl, no-data S n p) };
-        top = fresh-root h top word;
+        top = fresh-root h (S .family) top word;
       }
 
-  pub first-ready : Ready S emptyBook closed (record { array = freshArray keys h; control = freshControl h top; cache = emptyCache h })
+  pub first-ready : Ready S emptyBook closed (record { array = freshArray keys h; control = k; cache = emptyCache h })
   unfolding emptyBook
   first-ready =
       record {
         holds = settled-holds (emptyCache h) (length-empty h) (below-empty h) first-settled;
-        idle = fresh-count h top;
+        idle = fresh-count h (S .family) top;
         live = record {
           durable = formatted-durable S;
           fit = record { sized = length-empty h; formed = formed-empty h; bytes = below-empty h };

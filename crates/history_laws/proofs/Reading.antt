@@ -12,7 +12,7 @@ use Rattle.memory_map.proofs.Laws.{page-inside}
 use Rattle.memory_map.specs.Map.{pageOf, lines}
 use Rattle.counter.specs.Counter.{major}
 use Rattle.answer.specs.declared.Answer.the-variants.{Done, Blank}
-use Rattle.control.specs.Control.{root, count}
+use Rattle.control.specs.Control.{family, root, count}
 use Rattle.journal.specs.Journal.{Store, batchStores}
 use Rattle.journal.proofs.Again.{put-cells}
 use Rattle.calls.specs.Call.{Module, mediaOf, refuse, accessRefusal}
@@ -82,7 +82,7 @@ module _ {S : Setting} {b : Book} {o : Opening} {m : Module} {n : ℕ} (w : Acce
     unfolding readLoaded chosen RowOk
     reads-blank e =
         let none-yet : b .count n ≡ 0 = subst (λ (x : Option (List ℕ)). RowOk S (treeOf b) n x (m .array)) e row-is .0 in
-        opened ∙ ap (λ (x : Bool). chosen x (sideOk keys (m .array) (walk .cache) n))
+        opened ∙ ap (λ (x : Bool). chosen x (sideOk (family (m .control)) keys (m .array) (walk .cache) n))
         (eq-eqb (lineMinor (walk .cache) n) 0 (minor-is ∙ none-yet))
 
     pub reads-text : (t : List ℕ) → b .text n ≡ some t
@@ -91,8 +91,9 @@ module _ {S : Setting} {b : Book} {o : Opening} {m : Module} {n : ℕ} (w : Acce
     reads-text t e =
         let row = subst (λ (x : Option (List ℕ)). RowOk S (treeOf b) n x (m .array)) e row-is in
         opened
-        ∙ ap (λ (x : Bool). chosen x (sideOk keys (m .array) (walk .cache) n))
+        ∙ ap (λ (x : Bool). chosen x (sideOk (family (m .control)) keys (m .array) (walk .cache) n))
         (ne-eqb (lineMinor (walk .cache) n) 0 (λ z. omega (arith, minor-is, row .0, z)))
-        ∙ ap (chosen false) (side-ok S (treeOf b) n (m .array) t (row .1) (row .3) (walk .cache) major-is minor-is)
+        ∙ ap (chosen false) (ap (λ (f : ℕ). sideOk f keys (m .array) (walk .cache) n) (was .alike)
+        ∙ side-ok S (treeOf b) n (m .array) t (row .1) (row .3) (walk .cache) major-is minor-is)
         ∙ ap (λ (l : List ℕ). answered allowance m stores (Done (length stores) 0) (walk .cache) l out)
         (text-is S (treeOf b) n (m .array) t (row .1) (row .3) (walk .cache) major-is minor-is)

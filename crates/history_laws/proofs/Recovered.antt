@@ -20,9 +20,9 @@ use Rattle.cache.proofs.Laws.{owned-same, Formed, not-bad, length-with, owner-s
 use Rattle.cache.proofs.Laws.{content-same, owner-other, dirty-other, content-other, length-empty, owner-empty}
 use Rattle.cache.proofs.Laws.{dirty-empty, holds-owner, owner-holds, current-cached, current-missing}
 use Rattle.answer.specs.declared.Answer.the-variants.{Done}
-use Rattle.control.specs.Control.{depth, root}
+use Rattle.control.specs.Control.{family, depth, root}
 use Rattle.calls.specs.Call.{Module, Called, mediaOf}
-use Rattle.calls.specs.Recovery.{Forwarded, soFar, onward, rebuildSlot, rebuildBlocks, rebuildNode, rebuildNodes, recoverRoot}
+use Rattle.calls.specs.Recovery.{Forwarded, rebuildSlot, rebuildBlocks, rebuildNode, rebuildNodes, recoverRoot}
 use Rattle.calls.specs.Recovery.{recoverRebuilt, recoverShadow, recoverMedia, refuseAfter}
 use Rattle.calls.specs.Format.{countsFrom, freshNode}
 use Rattle.history_laws.specs.History.{total}
@@ -32,7 +32,7 @@ use Rattle.history_laws.proofs.Setting.{Setting, Tree, treeNode, treeRo
 use Rattle.history_laws.proofs.Tree.{tree-length}
 use Rattle.history_laws.proofs.Fitting.{Fitted}
 use Rattle.history_laws.proofs.Durable.{Durable}
-use Rattle.history_laws.proofs.Brought.{pageSum, block-comes}
+use Rattle.history_laws.proofs.Brought.{Comes, on, ended, then-comes, Doubt, pageSum, block-comes}
 
 -- ---- sums slot by slot
 
@@ -239,6 +239,7 @@ module _ {S : Setting} {T : Tree} {o : Opening} {a : List ℕ} (m : Durable S T 
 -- what it is about
 pub record Recoverable (S : Setting) (T : Tree) (o : Opening) (x : Module) : Type 0 where
   pub deep : depth (x .control) ≡ S .h
+  pub alike : family (x .control) ≡ S .family
   pub said : Section o (x .control)
   pub durable : Durable S T o (x .array)
   pub cells : Fitted S T o (x .array)
@@ -258,24 +259,24 @@ module _ {S : Setting} {T : Tree} {o : Opening} {x : Module} (v : Recoverable S 
   pub record BlocksFrom (n s : ℕ) (c : List ℕ) (sum : ℕ) : Type 0 where
     pub cache : List ℕ
     pub told : ℕ
-    pub comes : rebuildBlocks h keys (mediaOf x) s (listing m s n) c sum ≡ soFar cache told
+    pub comes : Comes (Doubt S T o a) (rebuildBlocks h keys (mediaOf x) s (listing m s n) c sum) cache told
     pub upto : Upto m (s + n) cache
     pub adds : told ≡ sum + total (countsFrom (λ t. added m (shadowOwner h a t)) s n)
 
   blocks-from : (n s : ℕ) (c : List ℕ) (sum : ℕ) → s + n ≤ 4 → Upto m s c → BlocksFrom n s c sum
-  unfolding rebuildBlocks rebuildSlot onward from slots
+  unfolding rebuildBlocks rebuildSlot from slots
   blocks-from zero s c sum p u =
       record {
         cache = c;
         told = sum;
-        comes = refl;
+        comes = on refl;
         upto = subst (λ (k : ℕ). Upto m k c) (omega arith) u;
         adds = adds-none (λ t. added m (shadowOwner h a t)) s sum;
       }
   blocks-from (suc n) s c sum p u = go (λ e t v. blocks-from n (suc s) e t (omega arith) v) (shadowOwner h a s) refl
     where
       Slot : ℕ → List ℕ → ℕ → Type 0
-      Slot owner i t = rebuildSlot h keys (mediaOf x) c sum s owner ≡ soFar i t
+      Slot owner i t = Comes (Doubt S T o a) (rebuildSlot h keys (mediaOf x) c sum s owner) i t
 
       step : {i : List ℕ} {t : ℕ} → Slot (shadowOwner h a s) i t → t ≡ sum + added m (shadowOwner h a s) → BlocksFrom n (suc s) i t
           → BlocksFrom (suc n) s c sum
@@ -283,7 +284,7 @@ module _ {S : Setting} {T : Tree} {o : Opening} {x : Module} (v : Recoverable S 
           record {
             cache = r .cache;
             told = r .told;
-            comes = ap (λ (y : Forwarded). onward y (rebuildBlocks h keys (mediaOf x) (suc s) (listing m (suc s) n))) e ∙ r .comes;
+            comes = then-comes (rebuildBlocks h keys (mediaOf x) (suc s) (listing m (suc s) n)) e (r .comes);
             upto = subst (λ (k : ℕ). Upto m k (r .cache)) (omega arith) (r .upto);
             adds = adds-step (λ t. added m (shadowOwner h a t)) s n sum _ (r .told) w (r .adds);
           }
@@ -291,15 +292,18 @@ module _ {S : Setting} {T : Tree} {o : Opening} {x : Module} (v : Recoverable S 
       go : ((e : List ℕ) (t : ℕ) → Upto m (suc s) e → BlocksFrom n (suc s) e t) → (i : ℕ) → shadowOwner h a s ≡ i
           → BlocksFrom (suc n) s c sum
       go others zero e =
-          step (subst (λ (i : ℕ). Slot i c sum) (sym e) refl) (owner-none m (shadowOwner h a s) sum e)
+          step (subst (λ (i : ℕ). Slot i c sum) (sym e) (on refl)) (owner-none m (shadowOwner h a s) sum e)
           (others c sum (skipped m s c e u))
       go others (suc i) e =
           let level : levelOf s ≡ 0 = level-low s (omega arith) in
-          let index : i < nodes h 0 = subst (λ (k : ℕ). i < nodes h k) level (listed-node m s i (omega arith) e .0) in
+          let there = listed-node m s i (omega arith) e in
+          let index : i < nodes h 0 = subst (λ (k : ℕ). i < nodes h k) level (there .0) in
           let page : i < pages h = omega (arith, index, nodes-bottom h) in
+          let own : slotOf 0 i ≡ s = subst (λ (k : ℕ). slotOf k i ≡ s) level (there .1) in
+          let listed : shadowOwner h a (slotOf 0 i) ≡ suc i = ap (shadowOwner h a) own ∙ e in
           let new = withSlot c s (suc i) 1 (treeNode S T 0 i) in
           step (subst (λ (j : ℕ). Slot j new (sum + pageSum S T a i)) (sym e)
-          (block-comes m (v .cells) (v .said) i page c sum s))
+          (block-comes m (v .cells) (v .said) (v .alike) i page listed c sum s))
           (owner-some m (shadowOwner h a s) i sum e)
           (others new (sum + pageSum S T a i)
           (filled m s i c (treeNode S T 0 i) (omega arith) e (ap (λ (k : ℕ). treeNode S T k i) (sym level)) u))
@@ -358,8 +362,10 @@ module _ {S : Setting} {T : Tree} {o : Opening} {x : Module} (v : Recoverable S 
         ∙ sym (v .top)))
 
     -- by what the counters come to
-    by-counters : recoverMedia keys k x
-        ≡ recoverRebuilt keys k x os (rebuildBlocks h keys (mediaOf x) 0 (from (shadowOwner h a) 0 4) (emptyCache h) 0)
+    abbrev counters : Forwarded
+    counters = rebuildBlocks h keys (mediaOf x) 0 (from (shadowOwner h a) 0 4) (emptyCache h) 0
+
+    by-counters : recoverMedia keys k x ≡ recoverRebuilt keys k x os counters
     unfolding recoverShadow
     by-counters =
         ap (λ (d : ℕ). recoverShadow keys k x (shadowOwners d a) (badSlot d (shadowOwners d a))) deep
@@ -367,10 +373,19 @@ module _ {S : Setting} {T : Tree} {o : Opening} {x : Module} (v : Recoverable S 
         ∙ ap (recoverRebuilt keys k x os)
         (ap₂ (λ (i : ℕ) (l : List ℕ). rebuildBlocks i keys (mediaOf x) 0 l (emptyCache i) 0) deep counter-slots)
 
-    -- so it is done
-    pub built : recoverMedia keys k x ≡ done-with (blocks .told)
+    -- it is done, unless a line ends it as 34
+    pub data Result : Type 0 where
+      built : recoverMedia keys k x ≡ done-with (blocks .told) → Result
+      halted : Doubt S T o a → (n : ℕ) → recoverMedia keys k x ≡ refuseAfter k x 34 n → Result
+
+    pub result : Result
     unfolding recoverRebuilt cacheAfter
-    built =
-        by-counters ∙ ap (recoverRebuilt keys k x os) (blocks .comes)
-        ∙ ap₂ (λ (d : ℕ) (l : List ℕ). recoverRoot keys k x (blocks .told) (rebuildNodes d keys a 4 l (blocks .cache))) deep node-slots
-        ∙ root-right (blocks .told)
+    result = go (blocks .comes)
+      where
+        go : Comes (Doubt S T o a) counters (blocks .cache) (blocks .told) → Result
+        go (on e) =
+            built
+            (by-counters ∙ ap (recoverRebuilt keys k x os) e
+            ∙ ap₂ (λ (d : ℕ) (l : List ℕ). recoverRoot keys k x (blocks .told) (rebuildNodes d keys a 4 l (blocks .cache))) deep node-slots
+            ∙ root-right (blocks .told))
+        go (ended doubt n e) = halted doubt n (by-counters ∙ ap (recoverRebuilt keys k x os) e)

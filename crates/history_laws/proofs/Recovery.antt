@@ -1,5 +1,5 @@
--- Recovery, wherever a module stands in a history: under the same keys it is never refused; cut, it leaves what the next one needs; done,
--- the module is ready. Assumes nothing.
+-- Recovery, wherever a module stands in a history, under the same keys: cut, it leaves what the next one needs; done, the module is ready;
+-- refused as 34, in family 1, another candidate fits beside a count, and its pending stores stand. Assumes nothing.
 use mathlib.Core.Path.{_≡_, refl, sym, ap, _∙_, subst}
 use mathlib.Core.Bool.{Bool, true, false, cond}
 use mathlib.Core.List.{List, []}
@@ -8,33 +8,37 @@ use native.Mathlib.Omega.{arith}
 use borrow.Author.Tests.{ltb-false}
 use lib.ListN.{length}
 use Rattle.words.proofs.Digits.{Below}
-use Rattle.memory_map.specs.Map.{lines}
-use Rattle.answer.specs.declared.Answer.the-variants.{Done, Cut}
+use Rattle.memory_map.specs.Map.{pageOf, lines}
+use Rattle.answer.specs.declared.Answer.the-variants.{Done, Cut, Refused}
 use Rattle.journal.specs.Journal.{Store, storeAll, pendingStores, made, isCut}
 use Rattle.journal.proofs.Laws.{made-all}
 use Rattle.calls.specs.Call.{Module, Called, mediaOf, withMedia}
 use Rattle.calls.specs.Recovery.{recoveryRefusal, recoverMedia, recoverJudged, recover}
 use Rattle.calls.specs.Format.{countsFrom}
-use Rattle.history_laws.specs.History.{Book, storedMinor, total}
+use Rattle.history_laws.specs.History.{Book, pendingMade, storedMinor, GoneThrough, OnlyCounts, total}
 use Rattle.call_laws.proofs.Judged.{end, opened-on}
 use Rattle.call_laws.proofs.Rebuilt.{recover-kept}
 use Rattle.history_laws.proofs.Setting.{Setting, Tree, treeOf, Opening}
-use Rattle.history_laws.proofs.Recovered.{Recoverable, blocks, cacheAfter, all-slots, formed-after, built}
+use Rattle.history_laws.proofs.Opening.{section-open}
+use Rattle.history_laws.proofs.Brought.{Doubt}
+use Rattle.history_laws.proofs.Recovered.{Recoverable, blocks, cacheAfter, all-slots, formed-after, Result, built, halted, result}
 use Rattle.history_laws.proofs.Told.{told-is}
 use Rattle.history_laws.proofs.Live.{Live}
 use Rattle.history_laws.proofs.State.{Holds, Ready, fitted, settled-holds, tests-pass, all-bytes}
 use Rattle.history_laws.proofs.Pending.{holds-cut}
 use Rattle.history_laws.proofs.Outcome.{madeStores, cutAmong}
 
--- ---- the two ways in which it ends
+-- ---- the ways in which it ends
 
-module _ (S : Setting) (b : Book) where
+module _ (S : Setting) (b : Book) (m : Module) where
   open Setting S using (h)
 
   pub data Ends (out : Called) : Type 0 where
     cut : {o : Opening} (n : ℕ) → out .answer ≡ Cut n → Holds S b o (out .after) → Ends out
     rebuilt : {o : Opening} (n told : ℕ) → out .answer ≡ Done n told
         → told ≡ total (countsFrom (λ i. b .count i - storedMinor h (out .after) i) 0 (lines h)) → Ready S b o (out .after) → Ends out
+    doubted : (n x : ℕ) → out .answer ≡ Refused 34 n x 0 → out .after ≡ pendingMade m → S .family ≡ 1
+        → (OnlyCounts (S .keys) h b (pendingMade m) → ⊥) → Ends out
 
 -- the rebuilt cache goes with the array
 rebuilt-live : {S : Setting} {T : Tree} {o : Opening} {x : Module} (v : Recoverable S T o x) → Below 256 (cacheAfter v)
@@ -50,7 +54,7 @@ rebuilt-live v plain =
     }
 
 module _ {S : Setting} {b : Book} {o : Opening} {m : Module} (held : Holds S b o m) (allowance : ℕ) where
-  open Setting S using (keys)
+  open Setting S using (keys, h)
 
   no-refusal : recoveryRefusal keys m ≡ 0
   unfolding recoveryRefusal
@@ -68,39 +72,56 @@ module _ {S : Setting} {b : Book} {o : Opening} {m : Module} (held : Holds S b o
   opened = ap (λ (n : ℕ). recoverJudged n keys allowance m) no-refusal
 
   -- the module once they are made
-  abbrev settled-module : Module
-  settled-module = withMedia (storeAll (mediaOf m) xs) (m .cache)
-
-  recoverable : Recoverable S (treeOf b) o settled-module
+  recoverable : Recoverable S (treeOf b) o (pendingMade m)
   recoverable =
       let s = held .settled in
-      record { deep = s .deep; said = s .section; durable = s .keeps .durable; cells = fitted S (s .keeps); top = s .top }
+      record {
+        deep = s .deep;
+        alike = s .alike;
+        said = s .section;
+        durable = s .keeps .durable;
+        cells = fitted S (s .keeps);
+        top = s .top;
+      }
+
+  -- a candidate beside a count
+  not-only : Doubt S (treeOf b) o (pendingMade m .array) → OnlyCounts keys h b (pendingMade m) → ⊥
+  unfolding OnlyCounts GoneThrough storedMinor
+  not-only doubt only =
+      let r = doubt .rival in
+      let shut = section-open (held .settled .section) (pageOf (doubt .line)) ∙ doubt .shut in
+      r .other (only (doubt .line) (r .minor) (doubt .listed, shut) (r .low) (r .high) (r .fits))
 
   abbrev out : Called
   out = recover keys allowance m
 
-  not-cut : isCut allowance xs ≡ false → out ≡ recoverMedia keys (length xs) settled-module
+  not-cut : isCut allowance xs ≡ false → out ≡ recoverMedia keys (length xs) (pendingMade m)
   not-cut e =
       opened ∙ ap stored e
       ∙ ap (λ (l : List Store). recoverMedia keys (length xs) (withMedia (storeAll (mediaOf m) l) (m .cache)))
       (made-all allowance xs (ltb-false allowance (length xs) e))
 
-  pub ends : Ends S b out
+  pub ends : Ends S b m out
   unfolding storedMinor
   ends = go (isCut allowance xs) refl
     where
-      go : (x : Bool) → isCut allowance xs ≡ x → Ends S b out
-      go true e = subst (Ends S b) (sym (opened ∙ ap stored e)) (cut (length (made allowance xs)) refl (holds-cut held allowance))
-      go false e =
+      whole : isCut allowance xs ≡ false → Result recoverable (length xs) → Ends S b m out
+      whole e (built same) =
           let v = recoverable in
           let told = blocks v .told in
-          let same = not-cut e ∙ built v (length xs) in
           let plain : Below 256 (cacheAfter v) =
-          subst (λ (c : Called). Below 256 (c .after .cache)) same (recover-kept keys allowance m (all-bytes held) .bytes .cache) in
-          subst (Ends S b) (sym same)
+          subst (λ (c : Called). Below 256 (c .after .cache)) (not-cut e ∙ same)
+          (recover-kept keys allowance m (all-bytes held) .bytes .cache) in
+          subst (Ends S b m) (sym (not-cut e ∙ same))
           (rebuilt (length xs) told refl (told-is (v .durable) told (blocks v .adds))
           (record {
             holds = settled-holds (cacheAfter v) (all-slots v .sized) plain (held .settled);
             idle = held .settled .idle;
             live = rebuilt-live v plain;
           }))
+      whole e (halted doubt n same) =
+          subst (Ends S b m) (sym (not-cut e ∙ same)) (doubted (length xs) n refl refl (doubt .unphased) (not-only doubt))
+
+      go : (x : Bool) → isCut allowance xs ≡ x → Ends S b m out
+      go true e = subst (Ends S b m) (sym (opened ∙ ap stored e)) (cut (length (made allowance xs)) refl (holds-cut held allowance))
+      go false e = whole e (result recoverable (length xs))

@@ -11,7 +11,7 @@ use Rattle.answer.specs.declared.Answer.{Answer}
 use Rattle.answer.specs.declared.Answer.the-variants.{Done, Blank, Cut, Refused}
 use Rattle.answer.specs.Answer.{codeOf, storesOf}
 use Rattle.counter.specs.Counter.{major}
-use Rattle.control.specs.Control.{Cell, depth, root}
+use Rattle.control.specs.Control.{Cell, family, depth, root}
 use Rattle.cache.specs.declared.Found.{Found}
 use Rattle.cache.specs.declared.Found.the-variants.{Nothing, At}
 use Rattle.cache.specs.Cache.{shadowOwners, badSlot, emptyCache, current}
@@ -56,7 +56,7 @@ module _ (m : Module) where
   module _ (keys : List ℕ) (line allowance : ℕ) (out : List ℕ) where
     read-loaded : (c : List ℕ) (x : List Cell) → Same m (readLoaded keys line allowance m out c x .called)
     unfolding readLoaded answered
-    read-loaded c x = go (eqb (lineMinor c line) 0) (sideOk keys (m .array) c line)
+    read-loaded c x = go (eqb (lineMinor c line) 0) (sideOk (family (m .control)) keys (m .array) c line)
       where
         xs : List Store
         xs = batchStores x (root (m .control))
@@ -87,7 +87,7 @@ module _ (m : Module) where
     write-loaded c x = go (eqb (lineMinor c line) 127)
       where
         xs : List Store
-        xs = writeStores (depth (m .control)) keys line text c x
+        xs = writeStores (depth (m .control)) (family (m .control)) keys line text c x
 
         d : List ℕ
         d = writtenCache (depth (m .control)) keys line c
@@ -120,7 +120,8 @@ module _ (m : Module) where
     turn-path : (r : Loaded) → Same m (turnPath keys p allowance m r)
     unfolding turnPath turnLoaded
     turn-path (differs l i) = λ n a b e. refl
-    turn-path (loaded c x) = go (eqb (major (blockOf c p)) (2 ^ 64 - 1)) (badLine keys (m .array) c p (turnPlaces (m .control) c p))
+    turn-path (loaded c x) =
+        go (eqb (major (blockOf c p)) (2 ^ 64 - 1)) (badLine (family (m .control)) keys (m .array) c p (turnPlaces (m .control) c p))
       where
         go : (s : Bool) (f : Found) → Same m (cond s (refuse m 31 0 0) (turnChecked keys p allowance m c x f))
         go true f = λ n a b e. refl
@@ -161,7 +162,7 @@ module _ (keys : List ℕ) (k : ℕ) (x : Module) where
 
   left-rebuilt : (os : List ℕ) (r : Forwarded) → Left k x (recoverRebuilt keys k x os r)
   unfolding recoverRebuilt
-  left-rebuilt os (failed i n) = left-refused k x i n
+  left-rebuilt os (failed n i) = left-refused k x n i
   left-rebuilt os (soFar d sum) = left-root sum (rebuildNodes h keys (x .array) 4 (drop 4 os) d)
 
   left-shadow : (os : List ℕ) (r : Found) → Left k x (recoverShadow keys k x os r)

@@ -1,5 +1,5 @@
--- The history rule: in every allowed list from a done format, a recovery with the same keys is not refused, and one that is done restores
--- what the book of the list up to it says. Assumes nothing.
+-- The history rule: in every allowed list from a done format of either family, a recovery with the same keys returns to what the book
+-- of the list up to it says. Assumes nothing.
 use mathlib.Core.Path.{_≡_, refl, sym, ap, ap₂, _∙_, subst}
 use mathlib.Core.Bool.{Bool, true, false, not, cond}
 use mathlib.Core.List.{List, _∷_, _++_}
@@ -11,7 +11,7 @@ use Rattle.memory_map.specs.Map.{pageOf, placeOf, lines}
 use Rattle.memory_map.proofs.Laws.{nodes-bottom, page-inside}
 use Rattle.counter.specs.Counter.{minor, lag}
 use Rattle.answer.specs.declared.Answer.{Answer}
-use Rattle.answer.specs.declared.Answer.the-variants.{Done, Cut}
+use Rattle.answer.specs.declared.Answer.the-variants.{Done, Cut, Refused}
 use Rattle.answer.specs.Answer.{codeOf, storesOf, firstOf}
 use Rattle.control.specs.Control.{isOpen}
 use Rattle.cache.specs.Cache.{formed}
@@ -21,8 +21,8 @@ use Rattle.calls.specs.Call.{Module, Called, NotCut, mediaOf, storing, judged, 
 use Rattle.calls.specs.Read.{Reading, answered, read}
 use Rattle.calls.specs.Recovery.{recover}
 use Rattle.calls.specs.Format.{formatRefusal, formatted, format, countsFrom}
-use Rattle.history_laws.specs.History.{recovers, Book, emptyBook, Allowed, moduleAfter, bookOf, counter}
-use Rattle.history_laws.specs.History.{storedMinor, total, Gives, Restored, NotRefused, HistoryRule}
+use Rattle.history_laws.specs.History.{Event, recovers, Book, emptyBook, AreBytes, Allowed, moduleAfter, bookOf, counter}
+use Rattle.history_laws.specs.History.{storedMinor, total, Gives, Restored, NotRefused, pendingMade, OnlyCounts, Returns, HistoryRule}
 use Rattle.call_laws.proofs.Judged.{entry-on, format-accepted}
 use Rattle.history_laws.proofs.Setting.{Setting, Opening}
 use Rattle.history_laws.proofs.Opening.{closed-line}
@@ -32,7 +32,7 @@ use Rattle.history_laws.proofs.State.{Settled, Holds, Ready, settled-no
 use Rattle.history_laws.proofs.First.{first-ready}
 use Rattle.history_laws.proofs.Outcome.{cutAmong, allStored}
 use Rattle.history_laws.proofs.Reading.{Access, walk, stores, reads-blank, reads-text}
-use Rattle.history_laws.proofs.Recovery.{Ends, cut, rebuilt, ends}
+use Rattle.history_laws.proofs.Recovery.{Ends, cut, rebuilt, doubted, ends}
 use Rattle.history_laws.proofs.Refused.{done-not, cut-not}
 use Rattle.history_laws.proofs.Events.{ready-inv, led}
 
@@ -127,39 +127,72 @@ cut-done : {n k t : ℕ} → Cut n ≡ Done k t → ⊥
 unfolding codeOf
 cut-done e = let z : _≡_ {A = ℕ} 2 0 = ap codeOf e in omega arith
 
--- what the rule says of a recovery
-abbrev Rule : List ℕ → ℕ → Book → Called → Type 0
-Rule keys h b out = NotRefused (out .answer) × ((k sum : ℕ) → out .answer ≡ Done k sum → Restored keys h b (out .after) sum)
+module _ {S : Setting} {b : Book} {m : Module} where
+  open Setting S using (keys, h, family)
 
-module _ {S : Setting} {b : Book} where
-  open Setting S using (keys, h)
-
-  never-refused : (out : Called) → Ends S b out → NotRefused (out .answer)
+  never-refused : (out : Called) → Ends S b m out → (family ≡ 1 → OnlyCounts keys h b (pendingMade m)) → NotRefused (out .answer)
   unfolding NotRefused
-  never-refused out (cut i e w) n k x y z = cut-not (sym e ∙ z)
-  never-refused out (rebuilt i t e s u) n k x y z = done-not (sym e ∙ z)
+  never-refused out (cut i e w) only n k x y z = cut-not (sym e ∙ z)
+  never-refused out (rebuilt i t e s u) only n k x y z = done-not (sym e ∙ z)
+  never-refused out (doubted i t e same one nay) only n k x y z = nay (only one)
 
-  restores : (out : Called) → Ends S b out → (k sum : ℕ) → out .answer ≡ Done k sum → Restored keys h b (out .after) sum
+  only-several : (out : Called) → Ends S b m out → (n k x y : ℕ) → out .answer ≡ Refused n k x y
+      → (family ≡ 1) × (n ≡ 34) × (out .after ≡ pendingMade m)
+  unfolding codeOf
+  only-several out (cut i e w) n k x y z = absurd (cut-not (sym e ∙ z))
+  only-several out (rebuilt i t e s u) n k x y z = absurd (done-not (sym e ∙ z))
+  only-several out (doubted i t e same one nay) n k x y z =
+      let number : 100 + 34 ≡ 100 + n = ap codeOf (sym e ∙ z) in (one, omega (arith, number), same)
+
+  restores : (out : Called) → Ends S b m out → (k sum : ℕ) → out .answer ≡ Done k sum → Restored keys h b (out .after) sum
   unfolding firstOf
   restores out (cut i e w) k sum z = absurd (cut-done (sym e ∙ z))
+  restores out (doubted i t e same one nay) k sum z = absurd (done-not (sym (sym e ∙ z)))
   restores out (rebuilt i t e s u) k sum z =
       let same : t ≡ sum = ap firstOf (sym e ∙ z) in
       subst (Restored keys h b (out .after)) same (restored u t s)
 
+  returns : (out : Called) → Ends S b m out → Returns keys h family b m out
+  returns out e = record { notRefused = never-refused out e; refused = only-several out e; restores = restores out e }
+
 pub history-rule : HistoryRule
 unfolding HistoryRule format formatted
-history-rule keys h given es rest allowance plain = go (formatRefusal keys h given) refl
+history-rule keys h f given es rest allowance plain = go (formatRefusal keys h f given) refl
   where
     first : ℕ → Called
-    first k = elim k as (λ z. Called) [ zero ↦ formatted keys h | suc n ↦ refuse given (suc n) 0 0 ]
+    first k = elim k as (λ z. Called) [ zero ↦ formatted keys h f | suc n ↦ refuse given (suc n) 0 0 ]
 
-    go : (k : ℕ) → formatRefusal keys h given ≡ k → (first k) .answer ≡ Done 0 0
+    go : (k : ℕ) → formatRefusal keys h f given ≡ k → (first k) .answer ≡ Done 0 0
         → Allowed keys false ((first k) .after) (es ++ (recovers keys allowance ∷ rest))
-        → Rule keys h (bookOf ((first k) .after) emptyBook es) (recover keys allowance (moduleAfter ((first k) .after) es))
+        → Returns keys h f (bookOf ((first k) .after) emptyBook es) (moduleAfter ((first k) .after) es)
+        (recover keys allowance (moduleAfter ((first k) .after) es))
     go (suc n) e nay ok = absurd (done-not (sym nay))
     go zero e yea ok =
-        let f = format-accepted keys h given e in
+        let y = format-accepted keys h f given e in
         let S : Setting =
-        record { keys = keys; keyed = record { at = plain }; keys-length = f .keys-length; h = h; low = f .low; high = f .high } in
+        record {
+          keys = keys;
+          keyed = record { at = plain };
+          keys-length = y .keys-length;
+          h = h;
+          low = y .low;
+          high = y .high;
+          family = f;
+          known = y .family;
+        } in
         let l = led S es (recovers keys allowance ∷ rest) false emptyBook _ (ready-inv S (first-ready S)) ok in
-        let r = ends (l .inv .holds) allowance in (never-refused _ r, restores _ r)
+        returns _ (ends (l .inv .holds) allowance)
+
+-- ---- what it comes to for family 0: no recovery with the same keys is refused, and there is no premise
+
+pub phased-rule : (keys : List ℕ) (h : ℕ) (given : Module) (es rest : List Event) (allowance : ℕ)
+    → AreBytes keys → (format keys h 0 given) .answer ≡ Done 0 0
+    → Allowed keys false ((format keys h 0 given) .after) (es ++ (recovers keys allowance ∷ rest))
+    → NotRefused ((recover keys allowance (moduleAfter ((format keys h 0 given) .after) es)) .answer)
+    × ((k sum : ℕ) → (recover keys allowance (moduleAfter ((format keys h 0 given) .after) es)) .answer ≡ Done k sum
+    → Restored keys h (bookOf ((format keys h 0 given) .after) emptyBook es)
+    ((recover keys allowance (moduleAfter ((format keys h 0 given) .after) es)) .after) sum)
+unfolding HistoryRule
+phased-rule keys h given es rest allowance plain yea ok =
+    let r = history-rule keys h 0 given es rest allowance plain yea ok in
+    (r .notRefused (λ (z : _≡_ {A = ℕ} 0 1). absurd (omega arith)), r .restores)

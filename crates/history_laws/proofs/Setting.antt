@@ -1,4 +1,4 @@
--- What the laws of a history are about: the keys and the depth of its module, what a fresh tree is made of, a turn that is not finished.
+-- What the laws of a history are about: keys, depth and family of its module, what a fresh tree is made of, a turn that is not finished.
 -- Assumes nothing.
 use mathlib.Core.Path.{_≡_}
 use mathlib.Core.Bool.{Bool, true, false, _&&_, _||_, not, cond}
@@ -18,7 +18,7 @@ use Rattle.side.specs.Side.{sideBytes}
 use Rattle.calls.specs.Format.{freshNode, freshRoot}
 use Rattle.history_laws.specs.History.{Book, changed, turnedCount}
 
--- what stays the same through a history: the keys, 48 bytes, and the depth h
+-- what stays the same through a history: the keys, 48 bytes, the depth h, and the family
 pub record Setting : Type 0 where
   pub keys : List ℕ
   pub keyed : Below 256 keys
@@ -26,6 +26,8 @@ pub record Setting : Type 0 where
   pub h : ℕ
   pub low : 1 ≤ h
   pub high : h ≤ 3
+  pub family : ℕ
+  pub known : family ≤ 1
 
 -- what a fresh tree is made of: a major for each page, and a count for each line
 pub record Tree : Type 0 where
@@ -77,7 +79,7 @@ abbrev pub cipherOf : Setting → Tree → ℕ → List ℕ → List ℕ
 cipherOf S T n text = xorBytes text (padOf S T n)
 
 abbrev pub sideOf : Setting → Tree → ℕ → List ℕ → List ℕ
-sideOf S T n text = sideBytes (S .keys) (cipherOf S T n text) n (T .major (pageOf n)) (T .count n)
+sideOf S T n text = sideBytes (S .family) (S .keys) (cipherOf S T n text) n (T .major (pageOf n)) (T .count n)
 
 -- a turn that is not finished: its page, and the places of its lines still to turn
 pub data Opening : Type 0 where

@@ -11,13 +11,13 @@ use Rattle.words.proofs.Digits.{Below}
 use Rattle.memory_map.specs.Map.{lines, cells, arrayLength}
 use Rattle.slot_map.specs.Slots.{cacheLength}
 use Rattle.cache.specs.Cache.{cellBytes}
-use Rattle.control.specs.Control.{depth, root, count, places, queue, inMap, validHead, validTurn, valid}
+use Rattle.control.specs.Control.{family, depth, root, count, places, queue, inMap, validHead, validTurn, valid}
 use Rattle.control.proofs.Laws.{parts-valid}
 use Rattle.journal.specs.Journal.{Media, storeAll, pendingStores}
 use Rattle.journal.proofs.Laws.{pending-none, store-none}
 use Rattle.journal.proofs.Kept.{Formed}
 use Rattle.calls.specs.Call.{Module, mediaOf, withMedia}
-use Rattle.history_laws.specs.History.{Book}
+use Rattle.history_laws.specs.History.{Book, pendingMade}
 use Rattle.call_laws.proofs.Judged.{Opened}
 use Rattle.call_laws.proofs.Kept.{Bytes}
 use Rattle.history_laws.proofs.Setting.{Setting, Tree, Alike, treeOf, treeRoot, cipherOf, Opening, sealed, Section}
@@ -70,6 +70,7 @@ module _ (S : Setting) where
     pub formed : Formed (arrayLength h) d
     pub right : validHead (d .control) ≡ true
     pub deep : depth (d .control) ≡ h
+    pub alike : family (d .control) ≡ S .family
     pub idle : count (d .control) ≡ 0
     pub section : Section o (d .control)
     pub keeps : Keeps b o (d .array)
@@ -90,8 +91,13 @@ module _ (S : Setting) where
     pub idle : count (m .control) ≡ 0
     pub live : Live S (treeOf b) o (m .array) (m .cache)
 
+-- where nothing is pending
 finished-idle : (d : Media) → count (d .control) ≡ 0 → finished d ≡ d
 finished-idle d e = ap (storeAll d) (pending-none (d .control) e) ∙ store-none d
+
+-- so its stores leave the module as it is
+pub none-pending : (m : Module) → count (m .control) ≡ 0 → pendingMade m ≡ m
+none-pending m e = ap (λ (d : Media). withMedia d (m .cache)) (finished-idle (mediaOf m) e)
 
 pub idle-valid : (k : List ℕ) → validHead k ≡ true → count k ≡ 0 → validTurn k ≡ true → valid k ≡ true
 unfolding queue places inMap

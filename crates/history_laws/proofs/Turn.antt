@@ -70,7 +70,7 @@ module _ {S : Setting} {b : Book} {o : Opening} {m : Module} {p : ℕ} (w : Page
   pub record Fresh (j : ℕ) : Type 0 where
     pub text : List ℕ
     pub says : b .text (lineAt p j) ≡ some text
-    pub cell : turnedCell keys (m .array) c p j ≡ record { number = lineAt p j; bytes = dataBytes S U (lineAt p j) text }
+    pub cell : turnedCell (S .family) keys (m .array) c p j ≡ record { number = lineAt p j; bytes = dataBytes S U (lineAt p j) text }
 
   module _ (j : ℕ) (place : j < 64) (not-turned : isDone o (lineAt p j) ≡ false) (is-written : lineMinor c (lineAt p j) ≡ 0 → ⊥) where
     abbrev n : ℕ
@@ -99,11 +99,11 @@ module _ {S : Setting} {b : Book} {o : Opening} {m : Module} {p : ℕ} (w : Page
               text = t;
               says = e;
               cell =
-                  ap (λ (l : List ℕ). lineCell keys n l (suc (major (blockOf c p))) 1)
+                  ap (λ (l : List ℕ). lineCell (S .family) keys n l (suc (major (blockOf c p))) 1)
                   (text-is S T n (m .array) t (row .1) (row .3) c major-is minor-is)
                   ∙ ap₂ {C = Cell} (λ (ma mi : ℕ). record {
                     number = n;
-                    bytes = xorBytes t (pad keys n ma mi) ++ sideBytes keys (xorBytes t (pad keys n ma mi)) n ma mi;
+                    bytes = xorBytes t (pad keys n ma mi) ++ sideBytes (S .family) keys (xorBytes t (pad keys n ma mi)) n ma mi;
                   }) (ap suc (major-at (reached w)) ∙ sym (ap (U .major) on-page ∙ turned-major T p))
                   (sym (turned-count T p n on-page ∙ turned-some (b .count n) (λ z. is-written (minor-is ∙ z))));
             }
@@ -111,7 +111,7 @@ module _ {S : Setting} {b : Book} {o : Opening} {m : Module} {p : ℕ} (w : Page
   -- ---- the batches
 
   abbrev lineCells : ℕ → List Cell
-  lineCells j = turnedCell keys (m .array) c p j ∷ []
+  lineCells j = turnedCell (S .family) keys (m .array) c p j ∷ []
 
   -- a line's cell stored
   line-stored : {j : ℕ} (f : Fresh j) (e : List ℕ)
@@ -122,7 +122,7 @@ module _ {S : Setting} {b : Book} {o : Opening} {m : Module} {p : ℕ} (w : Page
       ∙ ap (λ (k : ℕ). put e (72 * k) (dataBytes S U (lineAt p j) (f .text))) (sym (line-cell h (lineAt p j)))
 
   abbrev pub batches : List Cell → List ℕ → List Spec·Batch
-  batches = batchesOf h keys (m .array) c p (root (m .control))
+  batches = batchesOf h (S .family) keys (m .array) c p (root (m .control))
 
   pub new-block : turned (blockOf c p) ≡ treeNode S U 0 p
   new-block = ap turned (block-is (reached w)) ∙ turned-fresh S (walk w .live .durable .small) p

@@ -11,7 +11,7 @@ use Rattle.words.proofs.Digits.{Below}
 use Rattle.bits.specs.Bits.{setBits}
 use Rattle.counter.specs.Counter.{major, written}
 use Rattle.answer.specs.declared.Answer.the-variants.{Done}
-use Rattle.control.specs.Control.{Cell, root, turnMask, isOpen, otherOpen}
+use Rattle.control.specs.Control.{Cell, family, root, turnMask, isOpen, otherOpen}
 use Rattle.cache.specs.declared.Found.{Found}
 use Rattle.cache.specs.declared.Found.the-variants.{Nothing, At}
 use Rattle.journal.proofs.Each.{Each, none, more, each-append}
@@ -44,20 +44,20 @@ isNothing Nothing = true
 isNothing (At n) = false
 
 -- where none is bad, each has a minor
-line-written : (keys a c : List ℕ) (p : ℕ) (js : List ℕ) → badLine keys a c p js ≡ Nothing → (j : ℕ) → among j js ≡ true
+line-written : (f : ℕ) (keys a c : List ℕ) (p : ℕ) (js : List ℕ) → badLine f keys a c p js ≡ Nothing → (j : ℕ) → among j js ≡ true
     → lineMinor c (lineAt p j) ≡ 0 → ⊥
 unfolding badLine among isNothing
-line-written keys a c p [] e j m z = false≢true m
-line-written keys a c p (k ∷ ks) e j m z =
-    go (not (eqb (lineMinor c (lineAt p k)) 0) && sideOk keys a c (lineAt p k)) refl e (eqb j k) refl
-    (λ e m. line-written keys a c p ks e j m z) m
+line-written f keys a c p [] e j m z = false≢true m
+line-written f keys a c p (k ∷ ks) e j m z =
+    go (not (eqb (lineMinor c (lineAt p k)) 0) && sideOk f keys a c (lineAt p k)) refl e (eqb j k) refl
+    (λ e m. line-written f keys a c p ks e j m z) m
   where
-    go : (t : Bool) → (not (eqb (lineMinor c (lineAt p k)) 0) && sideOk keys a c (lineAt p k)) ≡ t
-        → cond t (badLine keys a c p ks) (At (lineAt p k)) ≡ Nothing → (s : Bool) → eqb j k ≡ s
-        → (badLine keys a c p ks ≡ Nothing → among j ks ≡ true → ⊥) → (s || among j ks) ≡ true → ⊥
+    go : (t : Bool) → (not (eqb (lineMinor c (lineAt p k)) 0) && sideOk f keys a c (lineAt p k)) ≡ t
+        → cond t (badLine f keys a c p ks) (At (lineAt p k)) ≡ Nothing → (s : Bool) → eqb j k ≡ s
+        → (badLine f keys a c p ks ≡ Nothing → among j ks ≡ true → ⊥) → (s || among j ks) ≡ true → ⊥
     go false t e s q later m = false≢true (ap isNothing e)
     go true t e true q later m =
-        let both = and-eq-true-iff (not (eqb (lineMinor c (lineAt p k)) 0)) (sideOk keys a c (lineAt p k)) .0 t in
+        let both = and-eq-true-iff (not (eqb (lineMinor c (lineAt p k)) 0)) (sideOk f keys a c (lineAt p k)) .0 t in
         eqb-false (lineMinor c (lineAt p k)) 0 (not-true _ (both .0)) (ap (λ (i : ℕ). lineMinor c (lineAt p i)) (sym (eqb-true j k q)) ∙ z)
     go true t e false q later m = later e m
 
@@ -171,7 +171,7 @@ module _ {S : Setting} {b : Book} {o : Opening} {m : Module} {p : ℕ} (w : Page
 
     proper : Each (Proper h) (batches w (front joins) places)
     proper =
-        batches-proper h keys (m .array) (c w) p (root k) page (whole w .whole) (whole w .plain) (front joins) places
+        batches-proper h (S .family) keys (m .array) (c w) p (root k) page (whole w .whole) (whole w .plain) (front joins) places
         (places-climb k (c w) p)
         (f .sound) (omega (arith, f .few, one joins)) (λ q. omega (arith, f .few, ap {B = ℕ} (λ (y : Bool). cond y 1 0) (never q)))
       where
@@ -190,7 +190,7 @@ module _ {S : Setting} {b : Book} {o : Opening} {m : Module} {p : ℕ} (w : Page
     abbrev size : ℕ
     size = length (storesFor bs)
 
-    stores-end : major (blockOf (c w) p) < 2 ^ 64 - 1 → badLine keys (m .array) (c w) p places ≡ Nothing → (allowance : ℕ)
+    stores-end : major (blockOf (c w) p) < 2 ^ 64 - 1 → badLine (family k) keys (m .array) (c w) p places ≡ Nothing → (allowance : ℕ)
         → Outcome S b (turnEntered true p b) (beforeLast bs) (Done size 0) (storing allowance m (storesFor bs) (Done size 0) (cache-new w))
     stores-end room good allowance =
         outcome (course w (omega (arith, room, major-at (reached w))) places (front joins) stage lines proper) _ allowance
@@ -200,26 +200,27 @@ module _ {S : Setting} {b : Book} {o : Opening} {m : Module} {p : ℕ} (w : Page
             let place = among-climbs j (places-climb k (c w) p) e in
             fresh w j place
             (still .yet (lineAt p j) (line-page h p j place) (ap (λ (i : ℕ). among i places) (line-place h p j place) ∙ e))
-            (line-written keys (m .array) (c w) p places good j e)
+            (line-written (family k) keys (m .array) (c w) p places good j e)
 
     -- the stores and the cache of the call
     done-is : (allowance : ℕ)
         → turnChecked keys p allowance m (c w) x Nothing ≡ storing allowance m (storesFor bs) (Done size 0) (cache-new w)
     unfolding turnChecked turnBatches turnFront turnedCache
     done-is allowance =
-        ap (λ (d : ℕ). stored d) (ready .holds .deep)
+        ap₂ {C = Called} (λ (d i : ℕ). stored d i) (ready .holds .deep) (settled w .alike)
         ∙ ap (λ (l : List ℕ). storing allowance m (storesFor bs) (Done size 0) (renewPath keys (c w) p l 0 h)) (new-block w)
       where
-        stored : ℕ → Called
-        stored d =
-            let xs = storesFor (batchesOf d keys (m .array) (c w) p (root k) (turnFront d k (c w) p x) places) in
+        stored : ℕ → ℕ → Called
+        stored d i =
+            let xs = storesFor (batchesOf d i keys (m .array) (c w) p (root k) (turnFront d k (c w) p x) places) in
             storing allowance m xs (Done (length xs) 0) (turnedCache d keys (c w) p)
 
     before-is : beforeFinished keys p m (pagePath keys p m) ≡ beforeLast bs
     unfolding beforeFinished turnBatches turnFront
     before-is =
         ap (beforeFinished keys p m) (path-is w)
-        ∙ ap (λ (d : ℕ). beforeLast (batchesOf d keys (m .array) (c w) p (root k) (turnFront d k (c w) p x) places)) (ready .holds .deep)
+        ∙ ap₂ {C = ℕ} (λ (d i : ℕ). beforeLast (batchesOf d i keys (m .array) (c w) p (root k) (turnFront d k (c w) p x) places))
+        (ready .holds .deep) (settled w .alike)
 
   -- refused, with the module as it was, or as far as its stores went
   pub data Turns (out : Called) : Type 0 where
@@ -234,7 +235,7 @@ module _ {S : Setting} {b : Book} {o : Opening} {m : Module} {p : ℕ} (w : Page
       own = turn-accepted keys p m open-now .closed
 
       bad : Found
-      bad = badLine keys (m .array) (c w) p places
+      bad = badLine (family k) keys (m .array) (c w) p places
 
       checked : Found → Called
       checked = turnChecked keys p allowance m (c w) x

@@ -138,16 +138,16 @@ module _ {S : Setting} {b : Book} {o : Opening} {m : Module} {n : ℕ} (w : Acce
           when = ap (λ (k : ℕ). eqb (lag (suc k)) 0) (minor-is w);
         }
 
-    data-is : dataCell keys n text c ≡ record { number = n; bytes = dataBytes S U n text }
+    data-is : dataCell (S .family) keys n text c ≡ record { number = n; bytes = dataBytes S U n text }
     unfolding lineCell dataBytes
     data-is =
         ap₂ {C = Cell} (λ (ma mi : ℕ). record {
           number = n;
-          bytes = xorBytes text (pad keys n ma mi) ++ sideBytes keys (xorBytes text (pad keys n ma mi)) n ma mi;
+          bytes = xorBytes text (pad keys n ma mi) ++ sideBytes (S .family) keys (xorBytes text (pad keys n ma mi)) n ma mi;
         }) (major-is w) (ap suc (minor-is w) ∙ sym (raised-same (treeOf b) n))
 
     abbrev pub cells : List Cell
-    cells = writeBatch h keys n text c x
+    cells = writeBatch h (S .family) keys n text c x
 
     abbrev blockCell : List ℕ → List Cell
     blockCell l = cond stop (nodeCell h 0 (pageOf n) l ∷ []) []
@@ -155,8 +155,9 @@ module _ {S : Setting} {b : Book} {o : Opening} {m : Module} {n : ℕ} (w : Acce
     array-is : put-cells (m .array) cells ≡ written (reached w) entry
     unfolding writeBatch put-cells
     array-is =
-        put-cells-append (m .array) (x ++ blockCell (newBlock c n)) (dataCell keys n text c ∷ [])
-        ∙ ap (λ (a : List ℕ). put-cells a (dataCell keys n text c ∷ [])) (put-cells-append (m .array) x (blockCell (newBlock c n)))
+        put-cells-append (m .array) (x ++ blockCell (newBlock c n)) (dataCell (S .family) keys n text c ∷ [])
+        ∙ ap (λ (a : List ℕ). put-cells a (dataCell (S .family) keys n text c ∷ []))
+        (put-cells-append (m .array) x (blockCell (newBlock c n)))
         ∙ ap₂ (λ (l : List ℕ) (d : Cell). put-cells (put-cells (put-cells (m .array) x) (blockCell l)) (d ∷ []))
         (new-block (reached w)) data-is
         ∙ ap (λ (k : ℕ). put (put-cells (put-cells (m .array) x) (blockCell (treeNode S U 0 (pageOf n)))) (72 * k) (dataBytes S U n text))
@@ -193,19 +194,19 @@ module _ {S : Setting} {b : Book} {o : Opening} {m : Module} {n : ℕ} (w : Acce
 
     sound-new : Each (Sound h) cells
     sound-new =
-        subst (λ (d : ℕ). Each (Sound d) (writeBatch d keys n text c x)) (held .deep)
-        (batch-sound given c x (subst (λ (d : ℕ). Each (Sound d) x) (sym (held .deep)) (loads (paged w) .sound)))
+        subst (λ (d : ℕ). Each (Sound d) (writeBatch d (S .family) keys n text c x)) (held .deep)
+        (batch-sound given c (S .family) x (subst (λ (d : ℕ). Each (Sound d) x) (sym (held .deep)) (loads (paged w) .sound)))
 
     pub few-new : length cells ≤ 8
     few-new =
         let bound : length cells ≤ 2 * h + 2 =
-        subst (λ (d : ℕ). length (writeBatch d keys n text c x) ≤ 2 * d + 2) (held .deep)
-        (batch-bound given c x (omega (arith, held .deep, loads (paged w) .few))) in
+        subst (λ (d : ℕ). length (writeBatch d (S .family) keys n text c x) ≤ 2 * d + 2) (held .deep)
+        (batch-bound given c (S .family) x (omega (arith, held .deep, loads (paged w) .few))) in
         omega (arith, S .high, bound)
 
     pub some-new : 0 < length cells
     unfolding writeBatch
-    some-new = omega (arith, length-append (x ++ blockCell (newBlock c n)) (dataCell keys n text c ∷ []))
+    some-new = omega (arith, length-append (x ++ blockCell (newBlock c n)) (dataCell (S .family) keys n text c ∷ []))
 
     abbrev pub cache-new : List ℕ
     cache-new = renewPath keys c (pageOf n) (treeNode S U 0 (pageOf n)) (cond stop 0 1) h
@@ -236,12 +237,12 @@ module _ {S : Setting} {b : Book} {o : Opening} {m : Module} {n : ℕ} (w : Acce
     unfolding writeJudged writePath writeLoaded writeStores writtenCache
     write-is allowance =
         ap (λ (k : ℕ). writeJudged k keys n text allowance m) (t .open-now) ∙ ap (writePath keys n text allowance m) (path-is (paged w))
-        ∙ ap (λ (d : ℕ). cond (eqb (lineMinor c n) 127) (refuse m 26 0 0) (stores-at d)) (held .deep)
-        ∙ ap (λ (y : Bool). cond y (refuse m 26 0 0) (stores-at h))
+        ∙ ap₂ {C = Called} (λ (d f : ℕ). cond (eqb (lineMinor c n) 127) (refuse m 26 0 0) (stores-at d f)) (held .deep) (s .alike)
+        ∙ ap (λ (y : Bool). cond y (refuse m 26 0 0) (stores-at h (S .family)))
         (ne-eqb (lineMinor c n) 127 (λ z. omega (arith, minor-is w, z, t .room)))
         ∙ ap (λ (l : List ℕ). storing allowance m (batchStores cells root-new) (Done (length (batchStores cells root-new)) 0)
         (renewPath keys c (pageOf n) l (cond stop 0 1) h)) (new-block (reached w))
       where
-        stores-at : ℕ → Called
-        stores-at d =
-            storing allowance m (writeStores d keys n text c x) (Done (length (writeStores d keys n text c x)) 0) (writtenCache d keys n c)
+        stores-at : ℕ → ℕ → Called
+        stores-at d f =
+            let xs = writeStores d f keys n text c x in storing allowance m xs (Done (length xs) 0) (writtenCache d keys n c)

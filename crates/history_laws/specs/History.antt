@@ -10,13 +10,16 @@ use lib.Dec.{ltb, eqb}
 use lib.ListN.{length, getD}
 use Rattle.memory_map.specs.Map.{pageOf, placeOf, lines, nodes, cellOf}
 use Rattle.memory_map.specs.Map.Item.{node}
-use Rattle.counter.specs.Counter.{minor, turnedMinor}
+use Rattle.slot_map.specs.Slots.{slotOf}
+use Rattle.counter.specs.Counter.{major, minor, turnedMinor}
+use Rattle.candidates.specs.Candidates.{candidate}
 use Rattle.answer.specs.declared.Answer.{Answer}
 use Rattle.answer.specs.declared.Answer.the-variants.{Done, Blank, Cut, Refused}
 use Rattle.answer.specs.Answer.{storesOf}
 use Rattle.control.specs.Control.{root, isOpen}
-use Rattle.cache.specs.Cache.{cellContent, current}
-use Rattle.calls.specs.Call.{Module, Called, NotCut}
+use Rattle.cache.specs.Cache.{cellBytes, cellContent, shadowOwner, current}
+use Rattle.journal.specs.Journal.{storeAll, pendingStores}
+use Rattle.calls.specs.Call.{Module, Called, NotCut, mediaOf, withMedia}
 use Rattle.calls.specs.Read.{Reading, blankText, read}
 use Rattle.calls.specs.Write.{write}
 use Rattle.calls.specs.Turn.{turn, pagePath, beforeFinished}
@@ -32,7 +35,7 @@ pub data Event : Type 0 where
   turns : List ℕ → ℕ → ℕ → Event
   recovers : List ℕ → ℕ → Event
   lists : List ℕ → Event
-  formats : List ℕ → ℕ → Event
+  formats : List ℕ → ℕ → ℕ → Event
   powerCut : List ℕ → Event
 
 -- what an event answers and leaves; a power cut between calls is a cut after no store
@@ -42,7 +45,7 @@ step (writes keys line text allowance) m = write keys line text allowance m
 step (turns keys p allowance) m = turn keys p allowance m
 step (recovers keys allowance) m = recover keys allowance m
 step (lists out) m = record { answer = (dirtyPages (m .control) (m .cache) out) .answer; after = m }
-step (formats keys h) m = format keys h m
+step (formats keys h f) m = format keys h f m
 step (powerCut c) m = record { answer = Cut 0; after = record { array = m .array; control = m .control; cache = c } }
 
 -- The book: for each line a count and a text, and for each page the number of its finished turns
@@ -95,7 +98,7 @@ bookAfter (turns keys p allowance) m b =
     turnEntered (finishes ((turn keys p allowance m) .answer) (beforeFinished keys p m (pagePath keys p m))) p b
 bookAfter (recovers keys allowance) m b = b
 bookAfter (lists out) m b = b
-bookAfter (formats keys h) m b = b
+bookAfter (formats keys h f) m b = b
 bookAfter (powerCut c) m b = b
 
 -- Which lists are allowed
@@ -120,7 +123,7 @@ Admitted keys awaited m (turns given p allowance) =
 Admitted keys awaited m (recovers given allowance) =
     Keyed keys given ((recover given allowance m) .answer) × AreBytes given × (allowance < 2 ^ 64)
 Admitted keys awaited m (lists out) = (awaited ≡ false) × AreBytes out
-Admitted keys awaited m (formats given h) = (awaited ≡ false) × AreBytes given × ((format given h m) .answer ≡ Done 0 0 → ⊥)
+Admitted keys awaited m (formats given h f) = (awaited ≡ false) × AreBytes given × ((format given h f m) .answer ≡ Done 0 0 → ⊥)
 Admitted keys awaited m (powerCut c) = (length c ≡ length (m .cache)) × AreBytes c
 
 -- a cut awaits a recovery that is done; where one is awaited no other call is done
@@ -145,12 +148,15 @@ bookOf m b (e ∷ es) = bookOf ((step e m) .after) (bookAfter e m b) es
 
 -- The rule
 
--- a line's counter, and its minor in the array
+-- a line's counter, and its page's block and its minor in the array
 unfoldable pub counter : ℕ → Module → ℕ → ℕ
 counter h m n = minor (current h (m .array) (m .cache) 0 (pageOf n)) (placeOf n)
 
+abbrev pub storedBlock : ℕ → Module → ℕ → List ℕ
+storedBlock h m n = cellContent (m .array) (cellOf h (node 0 (pageOf n)))
+
 unfoldable pub storedMinor : ℕ → Module → ℕ → ℕ
-storedMinor h m n = minor (cellContent (m .array) (cellOf h (node 0 (pageOf n)))) (placeOf n)
+storedMinor h m n = minor (storedBlock h m n) (placeOf n)
 
 unfoldable pub total : List ℕ → ℕ
 total [] = 0
@@ -175,14 +181,35 @@ pub record Restored (keys : List ℕ) (h : ℕ) (b : Book) (m : Module) (sum : �
 unfoldable pub NotRefused : Answer → Type 0
 NotRefused a = (n k x y : ℕ) → a ≡ Refused n k x y → ⊥
 
--- The history rule (demand 3): in every allowed list from a done format, a recovery with the same keys is not refused, and one that is done
--- restores what the book of the list up to it says
+-- the module with its pending stores made
+abbrev pub pendingMade : Module → Module
+pendingMade m = withMedia (storeAll (mediaOf m) (pendingStores (m .control))) (m .cache)
+
+-- a recovery goes through the lines of each page that the shadow lists, but for one that is open
+unfoldable pub GoneThrough : ℕ → Module → ℕ → Type 0
+GoneThrough h m n =
+    (shadowOwner h (m .array) (slotOf 0 (pageOf n)) ≡ suc (pageOf n)) × (isOpen (m .control) (pageOf n) ≡ false)
+
+-- of each such line, no candidate but its count in the book fits its cell
+unfoldable pub OnlyCounts : List ℕ → ℕ → Book → Module → Type 0
+OnlyCounts keys h b m =
+    (n v : ℕ) → GoneThrough h m n → storedMinor h m n ≤ v → v ≤ storedMinor h m n + 3
+    → candidate keys (cellBytes (m .array) n) n (major (storedBlock h m n)) v ≡ true → v ≡ b .count n
+
+-- what a recovery of m with the module's keys comes to, in a module of family f. It is not refused; of family 1 this is said where, once
+-- its pending stores are made, no other candidate fits. No refusal but 34 of family 1 comes, after which these stores stand and the cache
+-- is what it was. Done, it restores what the book says
+pub record Returns (keys : List ℕ) (h f : ℕ) (b : Book) (m : Module) (out : Called) : Type 0 where
+  pub notRefused : (f ≡ 1 → OnlyCounts keys h b (pendingMade m)) → NotRefused (out .answer)
+  pub refused : (n k x y : ℕ) → out .answer ≡ Refused n k x y → (f ≡ 1) × (n ≡ 34) × (out .after ≡ pendingMade m)
+  pub restores : (k sum : ℕ) → out .answer ≡ Done k sum → Restored keys h b (out .after) sum
+
+-- The history rule (demand 3): in every allowed list from a done format, of either family, a recovery with the same keys returns to what
+-- the book of the list up to it says
 unfoldable pub HistoryRule : Type 0
 HistoryRule =
-    (keys : List ℕ) (h : ℕ) (given : Module) (es rest : List Event) (allowance : ℕ)
-    → AreBytes keys → (format keys h given) .answer ≡ Done 0 0
-    → Allowed keys false ((format keys h given) .after) (es ++ (recovers keys allowance ∷ rest))
-    → NotRefused ((recover keys allowance (moduleAfter ((format keys h given) .after) es)) .answer)
-    × ((k sum : ℕ) → (recover keys allowance (moduleAfter ((format keys h given) .after) es)) .answer ≡ Done k sum
-    → Restored keys h (bookOf ((format keys h given) .after) emptyBook es)
-    ((recover keys allowance (moduleAfter ((format keys h given) .after) es)) .after) sum)
+    (keys : List ℕ) (h f : ℕ) (given : Module) (es rest : List Event) (allowance : ℕ)
+    → AreBytes keys → (format keys h f given) .answer ≡ Done 0 0
+    → Allowed keys false ((format keys h f given) .after) (es ++ (recovers keys allowance ∷ rest))
+    → Returns keys h f (bookOf ((format keys h f given) .after) emptyBook es) (moduleAfter ((format keys h f given) .after) es)
+    (recover keys allowance (moduleAfter ((format keys h f given) .after) es))

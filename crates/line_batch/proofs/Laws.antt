@@ -27,25 +27,25 @@ use Rattle.call_laws.proofs.Line.{sealed-length, all-length}
 
 -- ---- the data cell
 
-module _ (keys : List ℕ) (line : ℕ) (text : List ℕ) (ma mi : ℕ) (size : length text ≡ 64) where
+module _ (f : ℕ) (keys : List ℕ) (line : ℕ) (text : List ℕ) (ma mi : ℕ) (size : length text ≡ 64) where
   abbrev sealed : List ℕ
   sealed = xorBytes text (pad keys line ma mi)
 
   -- the content, and the side bytes behind it
   pub seal-bytes : (cell b : List ℕ) (w : ℕ) → length cell ≡ 72 → b ≡ sealed
-      → w ≡ fromLe (sideBytes keys (take 64 (b ++ drop 64 cell)) line ma mi)
-      → put (b ++ drop 64 cell) 64 (toLe 8 w) ≡ lineCell keys line text ma mi .bytes
+      → w ≡ fromLe (sideBytes f keys (take 64 (b ++ drop 64 cell)) line ma mi)
+      → put (b ++ drop 64 cell) 64 (toLe 8 w) ≡ lineCell f keys line text ma mi .bytes
   unfolding lineCell
   seal-bytes cell b w l e g =
       let side = toLe 8 w in
       let wide = length-digits 256 8 w in
-      let full : length b ≡ 64 = ap length e ∙ sealed-length keys line text ma mi size in
+      let full : length b ≡ 64 = ap length e ∙ sealed-length f keys line text ma mi size in
       ap (λ (x : List ℕ). put x 64 side) (part-put cell 0 b 64 full)
       ∙ ap (λ (i : ℕ). put (put cell 0 b) i side) (sym (zero-add 64) ∙ ap (λ (i : ℕ). 0 + i) (sym full))
       ∙ put-append cell 0 b side (omega arith) ∙ put-all cell (b ++ side) (rw length-append (omega arith))
       ∙ ap₂ {C = List ℕ} _++_ e
-      (ap (toLe 8) (g ∙ ap (λ (x : List ℕ). fromLe (sideBytes keys x line ma mi)) (take-at b (drop 64 cell) 64 full ∙ e))
-      ∙ side-back keys sealed line ma mi)
+      (ap (toLe 8) (g ∙ ap (λ (x : List ℕ). fromLe (sideBytes f keys x line ma mi)) (take-at b (drop 64 cell) 64 full ∙ e))
+      ∙ side-back f keys sealed line ma mi)
 
 -- number and cell, one after the other, where the allowance goes that far
 pub line-put : (k : List ℕ) (n allowance : ℕ) (c : Cell) → length k ≡ controlLength → n < 8 → n < allowance → length (c .bytes) ≡ 72
@@ -89,23 +89,23 @@ module _ (h p mi : ℕ) (b : List ℕ) (allowance : ℕ) (before : List ℕ) (n 
 
 -- ---- the batch
 
-pub cells-length : (h : ℕ) (keys c : List ℕ) (n : ℕ) (text : List ℕ) (ma mi : ℕ) (b : List ℕ)
-    → length (lineCells h keys c n text ma mi b) ≡ length (pathCells h c (pageOf n) (suc h)) + length (blockCells h (pageOf n) mi b) + 1
+pub cells-length : (h f : ℕ) (keys c : List ℕ) (n : ℕ) (text : List ℕ) (ma mi : ℕ) (b : List ℕ)
+    → length (lineCells h f keys c n text ma mi b) ≡ length (pathCells h c (pageOf n) (suc h)) + length (blockCells h (pageOf n) mi b) + 1
 unfolding lineCells
-cells-length h keys c n text ma mi b = all-length h keys n text ma mi b (pathCells h c (pageOf n) (suc h))
+cells-length h f keys c n text ma mi b = all-length h f keys n text ma mi b (pathCells h c (pageOf n) (suc h))
 
 -- what is staged step by step: the path, the block, the data cell
-module _ (h : ℕ) (keys c : List ℕ) (n : ℕ) (text : List ℕ) (ma mi : ℕ) (b : List ℕ) (allowance : ℕ) (p : ℕ) (page : p ≡ pageOf n) where
+module _ (h f : ℕ) (keys c : List ℕ) (n : ℕ) (text : List ℕ) (ma mi : ℕ) (b : List ℕ) (allowance : ℕ) (p : ℕ) (page : p ≡ pageOf n) where
   pub gathered : (k k₁ k₂ k₃ : List ℕ) (i j : ℕ)
       → k₁ ≡ stagedFrom allowance 0 (pathCells h c p (suc h)) k → i ≡ length (pathCells h c p (suc h))
       → k₂ ≡ stagedFrom allowance i (blockCells h p mi b) k₁ → j ≡ i + length (blockCells h p mi b)
-      → k₃ ≡ staged allowance j (lineCell keys n text ma mi) k₂
-      → (k₃ ≡ stagedFrom allowance 0 (lineCells h keys c n text ma mi b) k) × (j + 1 ≡ length (lineCells h keys c n text ma mi b))
+      → k₃ ≡ staged allowance j (lineCell f keys n text ma mi) k₂
+      → (k₃ ≡ stagedFrom allowance 0 (lineCells h f keys c n text ma mi b) k) × (j + 1 ≡ length (lineCells h f keys c n text ma mi b))
   unfolding lineCells
   gathered k k₁ k₂ k₃ i j e₁ n₁ e₂ n₂ e₃ =
       let x = pathCells h c (pageOf n) (suc h) in
       let y = blockCells h (pageOf n) mi b in
-      let z = lineCell keys n text ma mi in
+      let z = lineCell f keys n text ma mi in
       let first : i ≡ 0 + length x = n₁ ∙ ap (λ (q : ℕ). length (pathCells h c q (suc h))) page ∙ sym (zero-add (length x)) in
       let second : j ≡ i + length y = n₂ ∙ ap (λ (q : ℕ). i + length (blockCells h q mi b)) page in
       let two : k₂ ≡ stagedFrom allowance 0 (x ++ y) k =

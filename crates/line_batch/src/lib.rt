@@ -13,10 +13,10 @@ ghost use Rattle.call_laws.specs.Line.{blockCells, lineCells};
 ghost use Rattle.call_laws.specs.Walk.{missing as missingNodes, pathCells};
 
 // Writes the 72 bytes of a data cell.
-fn seal(keys: &[u8], line: usize, text: &[u8], major: u64, minor: u64, cell: &mut [u8])
+fn seal(family: u64, keys: &[u8], line: usize, text: &[u8], major: u64, minor: u64, cell: &mut [u8])
     requires { ⌜ (length (now keys) ≡ 48) × ((line < 2 ^ 32) × ((length (now text) ≡ 64) × ((minor < 128)
         × (length (now cell) ≡ 72)))) ⌝ }
-    ensures { λ _. ⌜ now (cell .exit) ≡ lineCell (now (keys .entry)) line (now (text .entry)) major minor .bytes ⌝ }
+    ensures { λ _. ⌜ now (cell .exit) ≡ lineCell family (now (keys .entry)) line (now (text .entry)) major minor .bytes ⌝ }
 {
     pad::apply(
         keys,
@@ -26,12 +26,13 @@ fn seal(keys: &[u8], line: usize, text: &[u8], major: u64, minor: u64, cell: &mu
         text,
         &mut cell[0..64],
     );
-    let side = side::word(keys, &cell[0..64], line as u64, major, minor);
+    let side = side::word(family, keys, &cell[0..64], line as u64, major, minor);
     words::store64(cell, 64, side);
 }
 
 // Stages the data cell of a text at a counter as cell n of a batch.
 pub fn put_data(
+    family: u64,
     keys: &[u8],
     line: usize,
     text: &[u8],
@@ -44,12 +45,13 @@ pub fn put_data(
     requires { ⌜ (length (now keys) ≡ 48) × ((line < 2 ^ 32) × ((length (now text) ≡ 64) × ((minor < 128)
         × ((length (now control) ≡ controlLength) × (n < 8))))) ⌝ }
     ensures { λ _. ⌜ now (control .exit)
-        ≡ staged allowance n (lineCell (now (keys .entry)) line (now (text .entry)) major minor) (now (control .entry)) ⌝ }
+        ≡ staged allowance n (lineCell family (now (keys .entry)) line (now (text .entry)) major minor) (now (control .entry)) ⌝ }
 {
     if (n as u64) < allowance {
         let at = control::PLACES + 80 * n;
         words::store64(control, at, line as u64);
         seal(
+            family,
             keys,
             line,
             text,
@@ -113,6 +115,7 @@ fn put_block(
 // Stages the batch of a write of a text at a counter, and tells how many cells it has.
 pub fn gather(
     h: usize,
+    family: u64,
     keys: &[u8],
     cache: &[u8],
     line: usize,
@@ -127,15 +130,25 @@ pub fn gather(
     requires { ⌜ (length (now keys) ≡ 48) × ((length (now text) ≡ 64) × ((minor < 128) × (length (now block) ≡ 64))) ⌝ }
     requires { ⌜ (1 ≤ h) × ((h ≤ 3) × ((length (now cache) ≡ cacheLength h) × ((formed h (now cache) ≡ true) × (line < lines h)))) ⌝ }
     requires { ⌜ (length (now control) ≡ controlLength) × ((missing ≡ missingNodes (now cache) (pageOf line) (suc h))
-        × (length (lineCells h (now keys) (now cache) line (now text) major minor (now block)) ≤ 8)) ⌝ }
-    ensures { λ _. ⌜ now (control .exit) ≡ stagedFrom allowance 0 (lineCells h (now (keys .entry)) (now (cache .entry)) line
+        × (length (lineCells h family (now keys) (now cache) line (now text) major minor (now block)) ≤ 8)) ⌝ }
+    ensures { λ _. ⌜ now (control .exit) ≡ stagedFrom allowance 0 (lineCells h family (now (keys .entry)) (now (cache .entry)) line
         (now (text .entry)) major minor (now (block .entry))) (now (control .entry)) ⌝ }
-    ensures { λ r. ⌜ r ≡ length (lineCells h (now (keys .entry)) (now (cache .entry)) line (now (text .entry)) major minor
+    ensures { λ r. ⌜ r ≡ length (lineCells h family (now (keys .entry)) (now (cache .entry)) line (now (text .entry)) major minor
         (now (block .entry))) ⌝ }
 {
     let p = memory_map::page_of(line);
     let i = put_path(h, cache, p, missing, control, allowance);
-    let n = put_block(h, p, minor, block, control, i, allowance);
-    put_data(keys, line, text, major, minor, control, n, allowance);
-    n + 1
+    let held = put_block(h, p, minor, block, control, i, allowance);
+    put_data(
+        family,
+        keys,
+        line,
+        text,
+        major,
+        minor,
+        control,
+        held,
+        allowance,
+    );
+    held + 1
 }

@@ -32,24 +32,24 @@ use Rattle.line_batch.proofs.Laws.{cells-length}
 use Rattle.renewal.specs.Renewed.{renewedTag, renewedBy}
 use Rattle.line_store.proofs.Renewed.{root-renewed, same-renewed}
 
-module _ {h : ℕ} {a k c : List ℕ} {n : ℕ} (y : Ready h a k c (pageOf n)) (keys : List ℕ) {text b : List ℕ} (v : Lent h n text b)
+module _ {h : ℕ} {a k c : List ℕ} {n : ℕ} (y : Ready h a k c (pageOf n)) (fam : ℕ) (keys : List ℕ) {text b : List ℕ} (v : Lent h n text b)
     (ma mi : ℕ) where
   abbrev p : ℕ
   p = pageOf n
 
   abbrev cs : List Cell
-  cs = lineCells h keys c n text ma mi b
+  cs = lineCells h fam keys c n text ma mi b
 
   -- ---- its cells are sound, and at most eight
 
   batch-sound : Each (Sound h) cs
   unfolding lineCells
   batch-sound =
-      all-sound h keys n text ma mi b (pathCells h c p (suc h)) v (cells-sound h c (fit y) p (y .page) (suc h) (le-refl (suc h)))
+      all-sound h fam keys n text ma mi b (pathCells h c p (suc h)) v (cells-sound h c (fit y) p (y .page) (suc h) (le-refl (suc h)))
 
   pub batch-length : (1 ≤ length cs) × (length cs ≤ 8)
   batch-length =
-      let all = cells-length h keys c n text ma mi b in
+      let all = cells-length h fam keys c n text ma mi b in
       (omega (arith, all), omega (arith, all, few y, y .sized .flat, block-few h p mi b))
 
   pub staging : {allowance : ℕ} {k₁ : List ℕ} {m : ℕ} → k₁ ≡ stagedFrom allowance 0 cs k → m ≡ length cs → Staged h allowance a k cs k₁ m
@@ -75,7 +75,7 @@ module _ {h : ℕ} {a k c : List ℕ} {n : ℕ} (y : Ready h a k c (pageOf n)) (
       none
   block-other l q lh false = none
 
-  data-other : (l : ℕ) → l ≤ h → Other h (node l (onPath p l)) (lineCell keys n text ma mi)
+  data-other : (l : ℕ) → l ≤ h → Other h (node l (onPath p l)) (lineCell fam keys n text ma mi)
   unfolding lineCell InMap cellOf
   data-other l lh e =
       let same = cell-injective h (line n) (node l (onPath p l)) (v .inside) (path-node h p l (y .page) lh) e in
@@ -85,7 +85,7 @@ module _ {h : ℕ} {a k c : List ℕ} {n : ℕ} (y : Ready h a k c (pageOf n)) (
   unfolding lineCells blockCells
   batch-other l q lh e =
       each-append (each-append (node-avoids h c (fit y .formed) p (y .page) l lh e) (block-other l q lh (eqb (lag mi) 0)))
-      (more {x = lineCell keys n text ma mi} (data-other l lh) none)
+      (more {x = lineCell fam keys n text ma mi} (data-other l lh) none)
 
   -- ---- run, with the tags of the renewed path
 

@@ -27,6 +27,7 @@ fn block_flag(minor: u64) -> u8
 // Makes the stores of a write at a counter whose path is found, and writes the path's slots: done, or cut with the cache as it was.
 pub fn store_line(
     h: usize,
+    family: u64,
     keys: &[u8],
     control: &mut [u8],
     array: &mut [u8],
@@ -43,13 +44,14 @@ pub fn store_line(
     requires { ⌜ (length (now control) ≡ controlLength) × (Sized h (now array) (now cache) × ((formed h (now cache) ≡ true)
         × ((line < lines h) × (missing ≡ missingNodes (now cache) (pageOf line) (suc h))))) ⌝ }
     ensures { λ r. ⌜ ended r (now (array .exit)) (now (control .exit)) (now (cache .exit))
-        ≡ storedLine h (now (keys .entry)) line (now (text .entry)) major minor (now (block .entry)) allowance
+        ≡ storedLine h family (now (keys .entry)) line (now (text .entry)) major minor (now (block .entry)) allowance
         (buffers (now (array .entry)) (now (control .entry)) (now (cache .entry))) ⌝ }
 {
     let p = memory_map::page_of(line);
     let tags = renewal::path_tags(h, keys, array, cache, p, block);
     let n = line_batch::gather(
         h,
+        family,
         keys,
         cache,
         line,

@@ -15,11 +15,18 @@ use answer::Answer;
 const BLANK: u8 = 255;
 
 // Whether a line's data cell has the side bytes of a counter.
-pub fn side_ok(keys: &[u8], array: &[u8], line: usize, major: u64, minor: u64) -> bool
+pub fn side_ok(family: u64, keys: &[u8], array: &[u8], line: usize, major: u64, minor: u64) -> bool
     requires { ⌜ (length (now keys) ≡ 48) × (72 * line + 72 ≤ length (now array)) ⌝ }
-    ensures { λ r. ⌜ r ≡ sideFits (now (keys .entry)) (cellBytes (now (array .entry)) line) line major minor ⌝ }
+    ensures { λ r. ⌜ r ≡ sideFits family (now (keys .entry)) (cellBytes (now (array .entry)) line) line major minor ⌝ }
 {
-    side::matches(keys, node::cell(array, line), line as u64, major, minor)
+    side::matches(
+        family,
+        keys,
+        node::cell(array, line),
+        line as u64,
+        major,
+        minor,
+    )
 }
 
 // Writes what a line reads as at a counter, once its stores are made, and answers.

@@ -12,7 +12,7 @@ use Rattle.pad.specs.Pad.{pad, xorBytes}
 use Rattle.side.specs.Side.{sideFits}
 use Rattle.answer.specs.declared.Answer.{Answer}
 use Rattle.answer.specs.declared.Answer.the-variants.{Done, Blank, Refused}
-use Rattle.control.specs.Control.{root}
+use Rattle.control.specs.Control.{family, root}
 use Rattle.cache.specs.Cache.{cellBytes, cellContent}
 use Rattle.journal.specs.Journal.{Store}
 use Rattle.calls.specs.Path.{differs}
@@ -25,9 +25,14 @@ use Rattle.call_laws.proofs.Storing.{storing-array, settled, broken}
 use Rattle.path.specs.declared.Line.{Line}
 use Rattle.path.proofs.Ready.{Found, fit, major-found, minor-found}
 
--- whether a line's side bytes are those of a counter, and its text at that counter
-abbrev pub sideIs : List ℕ → List ℕ → ℕ → Line → Bool
-sideIs keys a line n = sideFits keys (cellBytes a line) line (n .major) (n .minor)
+-- whether a line's side bytes are those of a counter in a module of family f, and its text at that counter
+abbrev pub sideIs : ℕ → List ℕ → List ℕ → ℕ → Line → Bool
+sideIs f keys a line n = sideFits f keys (cellBytes a line) line (n .major) (n .minor)
+
+-- a test of it, by the family that the control record tells
+pub side-told : {h : ℕ} {keys a k c : List ℕ} {line : ℕ} {n : Line} → Found h keys a k c line n → {f : ℕ} {t b : Bool} → f ≡ family k
+    → t ≡ sideIs f keys a line n → t ≡ b → sideIs (family k) keys a line n ≡ b
+side-told {h} {keys} {a} {k} {c} {line} {n} found e g q = ap (λ (i : ℕ). sideIs i keys a line n) (sym e) ∙ sym g ∙ q
 
 abbrev plain : List ℕ → List ℕ → ℕ → Line → List ℕ
 plain keys a line n = xorBytes (cellContent a line) (pad keys line (n .major) (n .minor))
@@ -54,11 +59,11 @@ module _ {h : ℕ} {keys a k c : List ℕ} {line : ℕ} {n : Line} (found : Foun
 
   -- whether its side bytes are those of its counter
   abbrev fits : Bool
-  fits = sideIs keys a line n
+  fits = sideIs (family k) keys a line n
 
-  side-same : sideOk keys a d line ≡ fits
+  side-same : sideOk (family k) keys a d line ≡ fits
   unfolding sideOk
-  side-same = ap₂ (λ (x z : ℕ). sideFits keys (cellBytes a line) line x z) (major-found found) (minor-found found)
+  side-same = ap₂ (λ (x z : ℕ). sideFits (family k) keys (cellBytes a line) line x z) (major-found found) (minor-found found)
 
   text-same : lineText keys a d line ≡ plain keys a line n
   unfolding lineText
@@ -75,7 +80,7 @@ module _ {h : ℕ} {keys a k c : List ℕ} {line : ℕ} {n : Line} (found : Foun
   unfolding readPath readLoaded
   by-tests b t e f =
       ap (readPath keys line allowance m out) (found .path)
-      ∙ ap (λ (x : Bool). tested x (sideOk keys a d line) (lineText keys a d line))
+      ∙ ap (λ (x : Bool). tested x (sideOk (family k) keys a d line) (lineText keys a d line))
       (ap (λ (i : ℕ). eqb i 0) (minor-found found) ∙ e)
       ∙ ap₂ {C = Reading} (tested b) (side-same ∙ f) text-same
 

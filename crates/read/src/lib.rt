@@ -36,7 +36,8 @@ fn read_line(
         return path::refused(path);
     };
     if found.minor != 0 {
-        if !line_text::side_ok(keys, array, line, found.major, found.minor) {
+        let family = control::family(control);
+        if !line_text::side_ok(family, keys, array, line, found.major, found.minor) {
             return refuse(25, line as u64, 0);
         }
     }

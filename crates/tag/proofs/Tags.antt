@@ -1,6 +1,6 @@
 -- The tags word by word, and their ranges. Assumes nothing.
 use mathlib.Core.Path.{_≡_, ap, ap₂, sym, _∙_}
-use mathlib.Core.List.{List, [], _∷_, _++_}
+use mathlib.Core.List.{List, [], _∷_, _++_, append-assoc}
 use Prim.Native.Nat.{ℕ, _+_, _*_, _%_, _^_, _<_}
 use native.Mathlib.Omega.{arith}
 use lib.Dec.{lit≤}
@@ -14,6 +14,7 @@ use Rattle.siphash.specs.SipHash.{initial, compress, compressAll, finalize, sip
 use Rattle.siphash.proofs.Messages.{compress-append, message-numbers}
 use Rattle.siphash.proofs.Ranges.{sipHash-lt}
 use Rattle.tag.specs.Tag.{nodeInput, nodeTag, dataInput, dataHash}
+use Rattle.tag.specs.States.{dataState, hashFrom}
 
 -- the state of key bytes 32 to 47
 abbrev keyed : List ℕ → List ℕ
@@ -64,3 +65,20 @@ pub nodeTag-lt : (keys content : List ℕ) (level index : ℕ) → Below 256 key
 unfolding nodeTag nodeInput
 nodeTag-lt keys content level index hk hc =
     sipHash-lt _ _ (below-take 16 _ (below-drop 32 keys hk)) (below-append content _ hc (below-bytes 8 _))
+
+pub dataHash-lt : (keys content : List ℕ) (line major minor : ℕ) → Below 256 keys → Below 256 content
+    → dataHash keys content line major minor < 2 ^ 64
+unfolding dataHash dataInput
+dataHash-lt keys content line major minor hk hc =
+    sipHash-lt _ _ (below-take 16 _ (below-drop 32 keys hk)) (below-append content _ hc (below-bytes 8 _))
+
+-- a data cell's hash in two parts
+pub hash-from : (keys content : List ℕ) (line major minor : ℕ) → length content ≡ 64 → line < 2 ^ 64 → major < 2 ^ 64 → minor < 2 ^ 64
+    → hashFrom (dataState keys content line major) minor ≡ dataHash keys content line major minor
+unfolding hashFrom dataState
+hash-from keys content line major minor hc hl hj hn =
+    let words = wordsOf 8 8 content in
+    let last = minor ∷ 0x5800_0000_0000_0000 ∷ [] in
+    ap finalize (sym (compress-append (keyed keys) (words ++ (line ∷ major ∷ [])) last)
+    ∙ ap (compressAll (keyed keys)) (append-assoc words (line ∷ major ∷ []) last))
+    ∙ data-words keys content line major minor hc hl hj hn

@@ -8,8 +8,10 @@ ghost use lib.ListN.{length};
 ghost use Rattle.words.specs.Bytes.{fromLe, toLe, part, put, wordsOf};
 ghost use Rattle.siphash.specs.SipHash.{initial, compressAll, finalize as finalized};
 ghost use Rattle.tag.specs.Tag.{nodeTag, dataHash};
+ghost use Rattle.tag.specs.States.{dataState, hashFrom};
 use siphash::compress;
 use siphash::finalize;
+use siphash::start;
 use siphash_message::absorb;
 use siphash_message::absorb_changed;
 use words::load64;
@@ -53,4 +55,27 @@ pub fn data_hash(keys: &[u8], content: &[u8], line: u64, major: u64, minor: u64)
     ensures { λ r. ⌜ r ≡ dataHash (now (keys .entry)) (now (content .entry)) line major minor ⌝ }
 {
     digest(keys, content, line, major, minor, 0x5800_0000_0000_0000)
+}
+
+// The state of that hash before the minor. It goes over the words by a loop of its own: `absorb` then has one caller among the calls, and
+// is compiled into `digest`.
+pub fn data_state(keys: &[u8], content: &[u8], line: u64, major: u64) -> [u64; 4]
+    requires { ⌜ (length (now keys) ≡ 48) × (length (now content) ≡ 64) ⌝ }
+    ensures { λ r. ⌜ r ≡ dataState (now (keys .entry)) (now (content .entry)) line major ⌝ }
+{
+    let mut v = start(load64(keys, 32), load64(keys, 40));
+    let mut i = 0;
+    while i < 8 {
+        let next = compress(v, load64(content, i * 8));
+        v = next;
+        i += 1;
+    }
+    compress(compress(v, line), major)
+}
+
+// The hash from such a state with a minor.
+pub fn data_hash_from(state: [u64; 4], minor: u64) -> u64
+    ensures { λ r. ⌜ r ≡ hashFrom state minor ⌝ }
+{
+    finalize(compress(compress(state, minor), 0x5800_0000_0000_0000))
 }

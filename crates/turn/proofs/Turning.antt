@@ -13,7 +13,7 @@ use Rattle.memory_map.specs.Map.{pages}
 use Rattle.counter.specs.Counter.{major, minors, writtenFrom}
 use Rattle.answer.specs.declared.Answer.{Answer}
 use Rattle.answer.specs.declared.Answer.the-variants.{Refused}
-use Rattle.control.specs.Control.{Cell, controlLength, depth, isOpen, turnMask}
+use Rattle.control.specs.Control.{Cell, controlLength, family, depth, isOpen, turnMask}
 use Rattle.cache.specs.Cache.{formed, current}
 use Rattle.cache.specs.declared.Found.{Found}
 use Rattle.cache.specs.declared.Found.the-variants.{Nothing, At}
@@ -113,23 +113,25 @@ module _ {h : ℕ} {a k c : List ℕ} {p : ℕ} (y : Ready h a k c p) (keys : Li
   checked f = turnChecked keys p allowance m d (pathCells h c p (suc h)) f
 
   by-major : (b : Bool) → eqb ma (2 ^ 64 - 1) ≡ b
-      → whole ≡ cond b (ended (Refused 31 0 0 0) a k c) (checked (badLine keys a d p (turnPlaces k d p)))
+      → whole ≡ cond b (ended (Refused 31 0 0 0) a k c) (checked (badLine (family k) keys a d p (turnPlaces k d p)))
   unfolding turnLoaded
   by-major b e =
-      ap (λ (t : Bool). cond t (ended (Refused 31 0 0 0) a k c) (checked (badLine keys a d p (turnPlaces k d p))))
+      ap (λ (t : Bool). cond t (ended (Refused 31 0 0 0) a k c) (checked (badLine (family k) keys a d p (turnPlaces k d p))))
       (ap (λ (i : ℕ). eqb i (2 ^ 64 - 1)) (sym major-same) ∙ e)
 
   -- 31
   pub turn-full : ma ≡ 2 ^ 64 - 1 → {r : Answer} → r ≡ Refused 31 0 0 0 → ended r a k c ≡ whole
   turn-full e f = rw f (sym (by-major true (eq-eqb ma (2 ^ 64 - 1) e)))
 
-  -- ms are the page's minors, the places still to turn are the mask's, and f is the first line that does not fit
+  -- ms are the page's minors, the places still to turn are the mask's, fam is the family, and f is the first line that does not fit
   module _ (more : ma ≡ 2 ^ 64 - 1 → ⊥) {ms : List ℕ} (are-minors : ms ≡ minors (current h a c 0 p)) (mask : ℕ)
-      (at : setBits mask ≡ cond (isOpen k p) (setBits (turnMask k)) (writtenFrom 0 ms)) {f : Found}
-      (searched : f ≡ firstBad keys a p ma ms (setBits mask)) where
+      (at : setBits mask ≡ cond (isOpen k p) (setBits (turnMask k)) (writtenFrom 0 ms)) {fam : ℕ} (is-family : fam ≡ family k) {f : Found}
+      (searched : f ≡ firstBad fam keys a p ma ms (setBits mask)) where
     by-line : checked f ≡ whole
     by-line =
-        ap checked (searched ∙ bad-of keys a d p major-same (minors-loaded y are-minors) k mask (turn-places y are-minors at))
+        ap checked
+        (searched ∙ ap (λ (i : ℕ). firstBad i keys a p ma ms (setBits mask)) is-family
+        ∙ bad-of (family k) keys a d p major-same (minors-loaded y are-minors) k mask (turn-places y are-minors at))
         ∙ sym (by-major false (ne-eqb ma (2 ^ 64 - 1) more))
 
     -- 25

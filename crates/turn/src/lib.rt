@@ -41,7 +41,8 @@ fn turn_loaded(
     let mut minors = [0u8; 64];
     minors::unpack(block, &mut minors);
     let mask = turn_check::places(control, p, &minors);
-    let bad = turn_check::bad_line(keys, array, p, major, &minors, mask);
+    let family = control::family(control);
+    let bad = turn_check::bad_line(family, keys, array, p, major, &minors, mask);
     if let Found::At(line) = bad {
         return refuse(25, line as u64, 0);
     }

@@ -17,6 +17,7 @@ ghost use Rattle.turn_batch.specs.Fresh.{freshCell, freshLine};
 
 // Stages a line encrypted afresh as cell n of a batch.
 pub fn put_line(
+    family: u64,
     keys: &[u8],
     array: &[u8],
     line: usize,
@@ -29,13 +30,23 @@ pub fn put_line(
     requires { ⌜ (length (now keys) ≡ 48) × ((line < 2 ^ 32) × ((72 * line + 72 ≤ length (now array)) × ((suc major < 2 ^ 64)
         × ((length (now control) ≡ controlLength) × (n < 8))))) ⌝ }
     ensures { λ _. ⌜ now (control .exit)
-        ≡ staged allowance n (freshCell (now (keys .entry)) (now (array .entry)) line major minor) (now (control .entry)) ⌝ }
+        ≡ staged allowance n (freshCell family (now (keys .entry)) (now (array .entry)) line major minor) (now (control .entry)) ⌝ }
 {
     if (n as u64) < allowance {
         let mut text = [0u8; 64];
         let content = node::in_cell(array, line);
         pad::apply(keys, line as u32, major, minor as u32, content, &mut text);
-        line_batch::put_data(keys, line, &text, major + 1, 1, control, n, allowance);
+        line_batch::put_data(
+            family,
+            keys,
+            line,
+            &text,
+            major + 1,
+            1,
+            control,
+            n,
+            allowance,
+        );
     }
 }
 
@@ -78,6 +89,7 @@ pub fn put_front<'a>(
 // many cells there then are.
 pub fn put_last(
     h: usize,
+    family: u64,
     keys: &[u8],
     array: &[u8],
     p: usize,
@@ -93,7 +105,8 @@ pub fn put_last(
         × ((suc major < 2 ^ 64) × ((length (now minors) ≡ 64) × (length (now block) ≡ 64))))))) ⌝ }
     requires { ⌜ (length (setBits rest) < 2) × ((length (now control) ≡ controlLength) × (n < 7)) ⌝ }
     ensures { λ _. ⌜ now (control .exit) ≡ stagedFrom allowance n (nodeCell h 0 p (now (block .entry))
-        ∷ map (freshLine (now (keys .entry)) (now (array .entry)) p major (now (minors .entry))) (setBits rest)) (now (control .entry)) ⌝ }
+        ∷ map (freshLine family (now (keys .entry)) (now (array .entry)) p major (now (minors .entry))) (setBits rest))
+        (now (control .entry)) ⌝ }
     ensures { λ r. ⌜ r ≡ n + suc (length (setBits rest)) ⌝ }
 {
     let cell = memory_map::node_cell(h, 0, p);
@@ -104,6 +117,16 @@ pub fn put_last(
     let j = bits::lowest(rest);
     let line = 64 * p + j;
     let minor = minors[j];
-    put_line(keys, array, line, major, minor, control, n + 1, allowance);
+    put_line(
+        family,
+        keys,
+        array,
+        line,
+        major,
+        minor,
+        control,
+        n + 1,
+        allowance,
+    );
     n + 2
 }

@@ -28,9 +28,17 @@ fn wide(x: u8) -> u64
 }
 
 // The first of these lines of page p whose minor is 0, or whose data cell has other side bytes.
-pub fn bad_line(keys: &[u8], array: &[u8], p: usize, major: u64, minors: &[u8], mask: u64) -> Found
+pub fn bad_line(
+    family: u64,
+    keys: &[u8],
+    array: &[u8],
+    p: usize,
+    major: u64,
+    minors: &[u8],
+    mask: u64,
+) -> Found
     requires { ⌜ (length (now keys) ≡ 48) × ((72 * (64 * p + 64) ≤ length (now array)) × (length (now minors) ≡ 64)) ⌝ }
-    ensures { λ r. ⌜ r ≡ firstBad (now (keys .entry)) (now (array .entry)) p major (now (minors .entry)) (setBits mask) ⌝ }
+    ensures { λ r. ⌜ r ≡ firstBad family (now (keys .entry)) (now (array .entry)) p major (now (minors .entry)) (setBits mask) ⌝ }
 {
     let mut left = mask;
     while 0 < left {
@@ -40,7 +48,7 @@ pub fn bad_line(keys: &[u8], array: &[u8], p: usize, major: u64, minors: &[u8], 
         if minor == 0 {
             return Found::At(line);
         }
-        if !line_text::side_ok(keys, array, line, major, minor) {
+        if !line_text::side_ok(family, keys, array, line, major, minor) {
             return Found::At(line);
         }
         left = bits::without_lowest(left);

@@ -14,7 +14,7 @@ use Rattle.memory_map.proofs.Laws.{cell-injective, path-node}
 use Rattle.counter.specs.Counter.{counterBlock, turnedMinor, turned}
 use Rattle.turn_block.proofs.Laws.{length-turned}
 use Rattle.answer.specs.declared.Answer.the-variants.{Done, Cut}
-use Rattle.control.specs.Control.{Cell, depth, root}
+use Rattle.control.specs.Control.{Cell, family, depth, root}
 use Rattle.cache.specs.Cache.{cellContent, holds, current}
 use Rattle.cache.specs.declared.Found.the-variants.{Nothing}
 use Rattle.journal.specs.Journal.{Store, Media, media}
@@ -61,11 +61,11 @@ module _ {h : ℕ} {a k c : List ℕ} {p missing ma : ℕ} {ms : List ℕ} {mask
   -- ---- the stores leave the nodes above the block alone where the cache lacks them
 
   abbrev batches : List Batch
-  batches = batchesOf h keys a d p (root k) (turnFront h k d p x) (turnPlaces k d p)
+  batches = batchesOf h (family k) keys a d p (root k) (turnFront h k d p x) (turnPlaces k d p)
 
   proper : Each (Proper h) batches
   proper =
-      turn-proper h keys a d p (root k) (y .page) (y .sized .array) (y .array-bytes) k x
+      turn-proper h (family k) keys a d p (root k) (y .page) (y .sized .array) (y .array-bytes) k x
       (path-fit h (y .sized .flat) a (y .sized .array) (y .array-bytes) p (y .page) (suc h) c (le-refl (suc h)) (fit y) (λ e. refl))
       (cells-sound h c (fit y) p (y .page) (suc h) (le-refl (suc h))) (few y)
 
@@ -82,7 +82,7 @@ module _ {h : ℕ} {a k c : List ℕ} {p missing ma : ℕ} {ms : List ℕ} {mask
         let same = cell-injective h (node 0 p) (node l (onPath p l)) (block-inside h p (y .page)) (path-node h p l (y .page) lh) e in
         let z : 0 ≡ l = cc in omega arith
 
-    line-other : (j : ℕ) → List·Memᴰ j (turnPlaces k d p) → turnedCell keys a d p j .number ≡ n → ⊥
+    line-other : (j : ℕ) → List·Memᴰ j (turnPlaces k d p) → turnedCell (family k) keys a d p j .number ≡ n → ⊥
     unfolding lineCell InMap cellOf
     line-other j m e =
         let same = cell-injective h (line (lineAt p j)) (node l (onPath p l))
@@ -92,7 +92,7 @@ module _ {h : ℕ} {a k c : List ℕ} {p missing ma : ℕ} {ms : List ℕ} {mask
 
     spare : holds c l (onPath p l) ≡ false → Each (Spares n) batches
     spare e =
-        batches-spare h keys a d p (root k) n block-other (turnFront h k d p x)
+        batches-spare h (family k) keys a d p (root k) n block-other (turnFront h k d p x)
         (front-spares h k d p x n block-other (node-avoids h c (fit y .formed) p (y .page) l lh e)) (turnPlaces k d p) line-other
 
   -- ---- the call
@@ -105,7 +105,7 @@ module _ {h : ℕ} {a k c : List ℕ} {p missing ma : ℕ} {ms : List ℕ} {mask
     unfolding turnChecked turnBatches turnedCache pageStores
     called-is =
         ap₂ {C = Called} (λ (n : ℕ) (b : List ℕ).
-        let zs = storesFor (batchesOf n keys a d p (root k) (turnFront n k d p x) (turnPlaces k d p)) in
+        let zs = storesFor (batchesOf n (family k) keys a d p (root k) (turnFront n k d p x) (turnPlaces k d p)) in
         storing allowance (buffers a k c) zs (Done (length zs) 0) (renewPath keys d p (turned b) 0 n))
         deep (sym (block-loaded y))
 

@@ -17,7 +17,7 @@ use Rattle.bits.proofs.Laws.{bits-climb, bits-none, with-of}
 use Rattle.memory_map.specs.Map.{lines, arrayLength, cellOf}
 use Rattle.counter.specs.Counter.{turned}
 use Rattle.counter.proofs.Laws.{length-minors}
-use Rattle.control.specs.Control.{Cell, controlLength, root, placeAt, places, turnBytes, inMap}
+use Rattle.control.specs.Control.{Cell, controlLength, family, root, placeAt, places, turnBytes, inMap}
 use Rattle.batch.specs.Batch.{staged, stagedFrom}
 use Rattle.batch.proofs.Laws.{staged-none, staged-one, staged-append}
 use Rattle.cache.specs.Cache.{cellContent, current}
@@ -75,16 +75,16 @@ pub record Begins (h : ℕ) (a k c : List ℕ) (p missing ma : ℕ) (ms : List �
   pub size : length control ≡ controlLength
 
 -- the stores of the batches that turn these places, the first of which starts with the cells front
-abbrev pub storesOf : ℕ → List ℕ → List ℕ → List ℕ → ℕ → ℕ → List Cell → List ℕ → List Store
-storesOf h keys a c p r front js = storesFor (batchesOf h keys a (withPath h a p (suc h) c) p r front js)
+abbrev pub storesOf : ℕ → ℕ → List ℕ → List ℕ → List ℕ → ℕ → ℕ → List Cell → List ℕ → List Store
+storesOf h f keys a c p r front js = storesFor (batchesOf h f keys a (withPath h a p (suc h) c) p r front js)
 
 -- those of the turn
-abbrev pub allStores : ℕ → List ℕ → List ℕ → List ℕ → List ℕ → ℕ → ℕ → List Store
-allStores h keys a k c p r =
-    let d = withPath h a p (suc h) c in storesOf h keys a c p r (turnFront h k d p (pathCells h c p (suc h))) (turnPlaces k d p)
+abbrev pub allStores : ℕ → ℕ → List ℕ → List ℕ → List ℕ → List ℕ → ℕ → ℕ → List Store
+allStores h f keys a k c p r =
+    let d = withPath h a p (suc h) c in storesOf h f keys a c p r (turnFront h k d p (pathCells h c p (suc h))) (turnPlaces k d p)
 
 -- after some of the batches: of the record before, the cells front of the next one are staged as far as what is left of the allowance goes
-pub record Turning (h : ℕ) (keys a k c : List ℕ) (p r allowance : ℕ) (control array : List ℕ) (left cells rest : ℕ) : Type 0 where
+pub record Turning (h f : ℕ) (keys a k c : List ℕ) (p r allowance : ℕ) (control array : List ℕ) (left cells rest : ℕ) : Type 0 where
   pub front : List Cell
   pub before : List ℕ
   pub staged : control ≡ stagedFrom left 0 front before
@@ -97,12 +97,12 @@ pub record Turning (h : ℕ) (keys a k c : List ℕ) (p r allowance : ℕ) (cont
   pub formed : Formed (arrayLength h) (media array before)
   pub texts : (j : ℕ) → List·Memᴰ j (setBits rest) → cellContent array (lineAt p j) ≡ cellContent a (lineAt p j)
   pub within : left ≤ allowance
-  pub so-far : allowance - left + length (storesOf h keys a c p r front (setBits rest)) ≤ length (allStores h keys a k c p r)
-  pub whole : 0 < left → length (allStores h keys a k c p r) ≤ allowance - left + length (storesOf h keys a c p r front (setBits rest))
-  pub goes : (after : Media) (told : ℕ) → Stored left (storesOf h keys a c p r front (setBits rest)) (media array before) after told
-      → Stored allowance (allStores h keys a k c p r) (media a k) after (allowance - left + told)
+  pub so-far : allowance - left + length (storesOf h f keys a c p r front (setBits rest)) ≤ length (allStores h f keys a k c p r)
+  pub whole : 0 < left → length (allStores h f keys a k c p r) ≤ allowance - left + length (storesOf h f keys a c p r front (setBits rest))
+  pub goes : (after : Media) (told : ℕ) → Stored left (storesOf h f keys a c p r front (setBits rest)) (media array before) after told
+      → Stored allowance (allStores h f keys a k c p r) (media a k) after (allowance - left + told)
 
-module _ (keys : List ℕ) (r : ℕ) {h : ℕ} {a k c : List ℕ} {p missing ma : ℕ} {ms : List ℕ} {mask allowance : ℕ} {control₀ : List ℕ}
+module _ (f : ℕ) (keys : List ℕ) (r : ℕ) {h : ℕ} {a k c : List ℕ} {p missing ma : ℕ} {ms : List ℕ} {mask allowance : ℕ} {control₀ : List ℕ}
     {cells₀ : ℕ} (g : Begins h a k c p missing ma ms mask allowance control₀ cells₀) where
   abbrev d : List ℕ
   d = withPath h a p (suc h) c
@@ -116,12 +116,12 @@ module _ (keys : List ℕ) (r : ℕ) {h : ℕ} {a k c : List ℕ} {p missing ma 
   unfolding cellOf
   path-spares n q = line-avoids h c (fit y .formed) p (y .page) n q
 
-  pub turning-none : Turning h keys a k c p r allowance control₀ a allowance cells₀ mask
+  pub turning-none : Turning h f keys a k c p r allowance control₀ a allowance cells₀ mask
   turning-none =
       let x = pathCells h c p (suc h) in
       let js = g .page .places in
-      let same : length (storesOf h keys a c p r (turnFront h k d p x) (setBits mask)) ≡ length (allStores h keys a k c p r) =
-      ap (λ (l : List ℕ). length (storesOf h keys a c p r (turnFront h k d p x) l)) js in
+      let same : length (storesOf h f keys a c p r (turnFront h k d p x) (setBits mask)) ≡ length (allStores h f keys a k c p r) =
+      ap (λ (l : List ℕ). length (storesOf h f keys a c p r (turnFront h k d p x) l)) js in
       record {
         front = turnFront h k d p x;
         before = k;
@@ -148,25 +148,25 @@ module _ (keys : List ℕ) (r : ℕ) {h : ℕ} {a k c : List ℕ} {p missing ma 
         whole = λ z. omega (arith, same);
         goes = λ after told s.
             let none : told ≡ allowance - allowance + told = omega arith in
-            subst₂ (λ (l : List ℕ) (n : ℕ). Stored allowance (storesOf h keys a c p r (turnFront h k d p x) l) (media a k) after n) js
+            subst₂ (λ (l : List ℕ) (n : ℕ). Stored allowance (storesOf h f keys a c p r (turnFront h k d p x) l) (media a k) after n) js
             none s;
       }
 
   -- ---- a batch before the last
 
-  module _ {control array : List ℕ} {left cells rest : ℕ} (t : Turning h keys a k c p r allowance control array left cells rest) where
+  module _ {control array : List ℕ} {left cells rest : ℕ} (t : Turning h f keys a k c p r allowance control array left cells rest) where
     abbrev front : List Cell
     front = t .front
 
-    proper : Each (Proper h) (batchesOf h keys a d p r front (setBits rest))
+    proper : Each (Proper h) (batchesOf h f keys a d p r front (setBits rest))
     proper =
-        batches-proper h keys a d p r (y .page) (y .sized .array) (y .array-bytes) front (setBits rest) (bits-climb rest) (t .sound)
+        batches-proper h f keys a d p r (y .page) (y .sized .array) (y .array-bytes) front (setBits rest) (bits-climb rest) (t .sound)
         (t .few) (t .lean)
 
     -- a batch of the turn, staged
     staging : (b : Batch) → Proper h b → (control₁ : List ℕ) (n : ℕ) → control₁ ≡ stagedFrom left 0 (b .cells) (t .before)
         → n ≡ length (b .cells) → Staged h left array (t .before) (b .cells) control₁ n
-    staging b w control₁ n e f =
+    staging b w control₁ n e q =
         record {
           flat = y .sized .flat;
           array = t .formed .array-length;
@@ -175,7 +175,7 @@ module _ (keys : List ℕ) (r : ℕ) {h : ℕ} {a k c : List ℕ} {p missing ma 
           some = w .some;
           few = omega (arith, w .few, y .sized .flat);
           cells = e;
-          number = f;
+          number = q;
         }
 
     module _ (more-left : 2 ≤ length (setBits rest)) {j next : ℕ} (low : j ≡ getD (setBits rest) 0 0) (place : j < 64)
@@ -189,23 +189,23 @@ module _ (keys : List ℕ) (r : ℕ) {h : ℕ} {a k c : List ℕ} {p missing ma 
       others = omega (arith, ap length split)
 
       abbrev batch : Batch
-      batch = record { cells = front ++ (turnedCell keys a d p j ∷ []); root = r; section = leftBytes p (setBits next) }
+      batch = record { cells = front ++ (turnedCell f keys a d p j ∷ []); root = r; section = leftBytes p (setBits next) }
 
-      batches-are : batchesOf h keys a d p r front (setBits rest) ≡ batch ∷ batchesOf h keys a d p r [] (setBits next)
-      batches-are = ap (batchesOf h keys a d p r front) split ∙ batches-more h keys a d p r front j (setBits next) others
+      batches-are : batchesOf h f keys a d p r front (setBits rest) ≡ batch ∷ batchesOf h f keys a d p r [] (setBits next)
+      batches-are = ap (batchesOf h f keys a d p r front) split ∙ batches-more h f keys a d p r front j (setBits next) others
 
       batch-proper : Proper h batch
       batch-proper = each-head (subst (Each (Proper h)) batches-are proper)
 
-      line-is : freshLine keys array p ma ms j ≡ turnedCell keys a d p j
+      line-is : freshLine f keys array p ma ms j ≡ turnedCell f keys a d p j
       line-is =
-          fresh-turned y keys (g .page .major-is) (g .page .minors-is) array j place
+          fresh-turned y f keys (g .page .major-is) (g .page .minors-is) array j place
           (t .texts j (subst (List·Memᴰ j) (sym split) (List·Memᴰ·head refl)))
 
-      module _ {control₁ : List ℕ} (put : control₁ ≡ staged left cells (freshLine keys array p ma ms j) control) where
+      module _ {control₁ : List ℕ} (put : control₁ ≡ staged left cells (freshLine f keys array p ma ms j) control) where
         line-staged : Staged h left array (t .before) (batch .cells) control₁ (cells + 1)
         line-staged =
-            let x = turnedCell keys a d p j in
+            let x = turnedCell f keys a d p j in
             let at : cells ≡ 0 + length front = t .number ∙ sym (zero-add (length front)) in
             staging batch batch-proper control₁ (cells + 1)
             (put ∙ ap (λ (z : Cell). staged left cells z control) line-is ∙ staged-one left cells x control
@@ -239,7 +239,7 @@ module _ (keys : List ℕ) (r : ℕ) {h : ℕ} {a k c : List ℕ} {p missing ma 
           unfolding lineCell
           spared i q l =
               each-append (t .spares (lineAt p i) (line-inside h p i l (y .page)))
-              (more {x = turnedCell keys a d p j} (λ z. omega arith) none)
+              (more {x = turnedCell f keys a d p j} (λ z. omega arith) none)
 
           kept : (i : ℕ) → List·Memᴰ i (setBits next) → cellContent array₂ (lineAt p i) ≡ cellContent a (lineAt p i)
           kept i m =
@@ -250,19 +250,19 @@ module _ (keys : List ℕ) (r : ℕ) {h : ℕ} {a k c : List ℕ} {p missing ma 
               ∙ t .texts i (subst (List·Memᴰ i) (sym split) (List·Memᴰ·tail m))
 
           abbrev ys : List Store
-          ys = storesOf h keys a c p r [] (setBits next)
+          ys = storesOf h f keys a c p r [] (setBits next)
 
-          many : length (storesOf h keys a c p r front (setBits rest)) ≡ length xs + length ys
+          many : length (storesOf h f keys a c p r front (setBits rest)) ≡ length xs + length ys
           many =
-              ap (λ (bs : List Batch). length (storesFor bs)) batches-are ∙ batch-then batch (batchesOf h keys a d p r [] (setBits next))
+              ap (λ (bs : List Batch). length (storesFor bs)) batches-are ∙ batch-then batch (batchesOf h f keys a d p r [] (setBits next))
               ∙ ap (λ (n : ℕ). n + length ys) (sym (length-turn-stores (batch .cells) r (batch .section)))
 
           after-both : (after : Media) (n : ℕ) → Stored (left - told) ys (media array₂ control₂) after n
-              → Stored allowance (allStores h keys a k c p r) (media a k) after (allowance - (left - told) + n)
+              → Stored allowance (allStores h f keys a k c p r) (media a k) after (allowance - (left - told) + n)
           unfolding storesFor
           after-both after n s =
               let sum : allowance - left + (told + n) ≡ allowance - (left - told) + n = omega (arith, told-few, t .within) in
-              subst (λ (m : ℕ). Stored allowance (allStores h keys a k c p r) (media a k) after m) sum
+              subst (λ (m : ℕ). Stored allowance (allStores h f keys a k c p r) (media a k) after m) sum
               (t .goes after (told + n)
               (subst (λ (bs : List Batch). Stored left (storesFor bs) (media array (t .before)) after (told + n)) (sym batches-are)
               (stored-both left xs ys stored s)))
@@ -270,7 +270,7 @@ module _ (keys : List ℕ) (r : ℕ) {h : ℕ} {a k c : List ℕ} {p missing ma 
           formed-after : Formed (arrayLength h) (media array₂ control₂)
           formed-after = subst (Formed (arrayLength h)) (sym (stored .left)) (made-kept left (t .formed) within)
 
-          pub turning-more : Turning h keys a k c p r allowance control₂ array₂ (left - told) 0 next
+          pub turning-more : Turning h f keys a k c p r allowance control₂ array₂ (left - told) 0 next
           turning-more =
               let told-is = stored .number ∙ length-take left xs in
               record {
@@ -295,21 +295,21 @@ module _ (keys : List ℕ) (r : ℕ) {h : ℕ} {a k c : List ℕ} {p missing ma 
 
     module _ (few-left : length (setBits rest) < 2) {block : List ℕ} (new : block ≡ turned (current h a c 0 p)) where
       abbrev line : List Cell
-      line = map (turnedCell keys a d p) (setBits rest)
+      line = map (turnedCell f keys a d p) (setBits rest)
 
       abbrev last : Batch
       last = lastBatch h keys d p front line
 
-      last-is : batchesOf h keys a d p r front (setBits rest) ≡ last ∷ []
-      last-is = batches-last h keys a d p r front (setBits rest) few-left
+      last-is : batchesOf h f keys a d p r front (setBits rest) ≡ last ∷ []
+      last-is = batches-last h f keys a d p r front (setBits rest) few-left
 
-      lines-are : map (freshLine keys array p ma ms) (setBits rest) ≡ line
+      lines-are : map (freshLine f keys array p ma ms) (setBits rest) ≡ line
       lines-are =
-          all-turned y keys (g .page .major-is) (g .page .minors-is) array (setBits rest)
+          all-turned y f keys (g .page .major-is) (g .page .minors-is) array (setBits rest)
           (λ j m. (climbs-mem (bits-climb rest) m .1, t .texts j m))
 
       module _ {control₁ : List ℕ} {n : ℕ}
-          (put : control₁ ≡ stagedFrom left cells (nodeCell h 0 p block ∷ map (freshLine keys array p ma ms) (setBits rest)) control)
+          (put : control₁ ≡ stagedFrom left cells (nodeCell h 0 p block ∷ map (freshLine f keys array p ma ms) (setBits rest)) control)
           (count : n ≡ cells + suc (length (setBits rest))) where
         last-staged : Staged h left array (t .before) (last .cells) control₁ n
         last-staged =
@@ -321,7 +321,7 @@ module _ (keys : List ℕ) (r : ℕ) {h : ℕ} {a k c : List ℕ} {p missing ma 
             ∙ ap₂ {C = List ℕ} (λ (b : List ℕ) (ls : List Cell). stagedFrom left cells (nodeCell h 0 p b ∷ ls) control) block-is lines-are
             ∙ ap₂ {C = List ℕ} (λ (i : ℕ) (l : List ℕ). stagedFrom left i x l) at (t .staged)
             ∙ sym (staged-append left 0 front x (t .before)))
-            (omega (arith, t .number, length-append front x, length-map (setBits rest) (turnedCell keys a d p)))
+            (omega (arith, t .number, length-append front x, length-map (setBits rest) (turnedCell f keys a d p)))
 
         pub last-runs : Runs array control₁ n left
         last-runs = runs last-staged
@@ -341,27 +341,27 @@ module _ (keys : List ℕ) (r : ℕ) {h : ℕ} {a k c : List ℕ} {p missing ma 
           last-few : told ≤ left
           last-few = omega (arith, stored-last .number, length-take left zs)
 
-          are : storesOf h keys a c p r front (setBits rest) ≡ zs
+          are : storesOf h f keys a c p r front (setBits rest) ≡ zs
           unfolding storesFor
           are = ap storesFor last-is ∙ append-nil zs
 
           -- all the stores of the turn, as far as the allowance goes
-          turned-stores : Stored allowance (allStores h keys a k c p r) (media a k) (media array₂ control₂) (allowance - left + told)
+          turned-stores : Stored allowance (allStores h f keys a k c p r) (media a k) (media array₂ control₂) (allowance - left + told)
           turned-stores =
               t .goes (media array₂ control₂) told
               (subst (λ (xs : List Store). Stored left xs (media array (t .before)) (media array₂ control₂) told) (sym are) stored-last)
 
-          last-length : length (storesOf h keys a c p r front (setBits rest)) ≡ 2 * n + 3
+          last-length : length (storesOf h f keys a c p r front (setBits rest)) ≡ 2 * n + 3
           last-length =
               ap length are ∙ length-turn-stores (last .cells) (last .root) (last .section)
               ∙ ap (λ (i : ℕ). 2 * i + 3) (sym (last-staged .number))
 
           -- whether they are all is seen by the last batch
-          turned-all : leb (2 * n + 3) told ≡ leb (length (allStores h keys a k c p r)) (allowance - left + told)
+          turned-all : leb (2 * n + 3) told ≡ leb (length (allStores h f keys a k c p r)) (allowance - left + told)
           turned-all = go (lt-or-ge told (2 * n + 3))
             where
               all : ℕ
-              all = length (allStores h keys a k c p r)
+              all = length (allStores h f keys a k c p r)
 
               sum : ℕ
               sum = allowance - left + told
@@ -371,11 +371,11 @@ module _ (keys : List ℕ) (r : ℕ) {h : ℕ} {a k c : List ℕ} {p missing ma 
               go (inr q) =
                   le-leb (2 * n + 3) told q ∙ sym (le-leb all sum (omega (arith, t .whole (omega (arith, last-few)), last-length)))
 
-          pub turned-makes : r ≡ root k
+          pub turned-makes : f ≡ family k → r ≡ root k
               → Makes allowance (pageStores h keys a k c p) (media a k) (media array₂ control₂)
               (record { stores = allowance - left + told; whole = leb (2 * n + 3) told })
           unfolding pageStores
-          turned-makes e =
-              subst (λ (x : ℕ). Makes allowance (allStores h keys a k c p x) (media a k) (media array₂ control₂)
+          turned-makes i e =
+              subst₂ (λ (u x : ℕ). Makes allowance (allStores h u keys a k c p x) (media a k) (media array₂ control₂)
               (record { stores = allowance - left + told; whole = leb (2 * n + 3) told }))
-              e (record { stored = turned-stores; all = turned-all })
+              i e (record { stored = turned-stores; all = turned-all })

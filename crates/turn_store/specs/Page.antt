@@ -8,7 +8,7 @@ use lib.ListN.{length}
 use Rattle.bits.specs.Bits.{setBits}
 use Rattle.memory_map.specs.Map.{pages}
 use Rattle.counter.specs.Counter.{major, minors}
-use Rattle.control.specs.Control.{controlLength, root}
+use Rattle.control.specs.Control.{controlLength, family, root}
 use Rattle.cache.specs.Cache.{formed, current}
 use Rattle.journal.specs.Journal.{Store, Media, Stored}
 use Rattle.node.specs.Sized.{Sized}
@@ -32,7 +32,7 @@ pub record Page (h : ℕ) (a k c : List ℕ) (p missing ma : ℕ) (ms : List ℕ
 unfoldable pub pageStores : ℕ → List ℕ → List ℕ → List ℕ → List ℕ → ℕ → List Store
 pageStores h keys a k c p =
     let d = withPath h a p (suc h) c in
-    storesFor (batchesOf h keys a d p (root k) (turnFront h k d p (pathCells h c p (suc h))) (turnPlaces k d p))
+    storesFor (batchesOf h (family k) keys a d p (root k) (turnFront h k d p (pathCells h c p (suc h))) (turnPlaces k d p))
 
 -- those that an allowance makes, and whether they are all
 pub record Makes (allowance : ℕ) (xs : List Store) (m after : Media) (r : Made) : Type 0 where

@@ -41,22 +41,24 @@ fn run_batches(
     ensures { λ r. ⌜ Makes allowance (pageStores h (now (keys .entry)) (now (array .entry)) (now (control .entry)) (now (cache .entry)) p)
         (media (now (array .entry)) (now (control .entry))) (media (now (array .exit)) (now (control .exit))) r ⌝ }
 {
+    let family = control::family(control);
     let old = control::root(control);
     let mut left = allowance;
-    let mut cells = turn_batch::put_front(h, array, cache, p, missing, mask, control, left);
+    let mut held = turn_batch::put_front(h, array, cache, p, missing, mask, control, left);
     let mut rest = mask;
     while 2 <= bits::remaining(rest) {
         let j = bits::lowest(rest);
         let line = 64 * p + j;
         let minor = minors[j];
-        turn_batch::put_line(keys, array, line, major, minor, control, cells, left);
+        turn_batch::put_line(family, keys, array, line, major, minor, control, held, left);
         let next = bits::without_lowest(rest);
-        left -= journal::run_turn(array, control, cells + 1, old, 1, p as u64, next, left);
+        left -= journal::run_turn(array, control, held + 1, old, 1, p as u64, next, left);
         rest = next;
-        cells = 0;
+        held = 0;
     }
     let n = turn_batch::put_last(
         h,
+        family,
         keys,
         array,
         p,
@@ -65,7 +67,7 @@ fn run_batches(
         block,
         rest,
         control,
-        cells,
+        held,
         left,
     );
     let made = journal::run_turn(array, control, n, root, 0, 0, 0, left);

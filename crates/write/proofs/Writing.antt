@@ -11,7 +11,7 @@ use Rattle.memory_map.specs.Map.{pageOf, placeOf}
 use Rattle.counter.specs.Counter.{withMinor, lag}
 use Rattle.answer.specs.declared.Answer.{Answer}
 use Rattle.answer.specs.declared.Answer.the-variants.{Done, Refused}
-use Rattle.control.specs.Control.{Cell}
+use Rattle.control.specs.Control.{Cell, family}
 use Rattle.cache.specs.Cache.{current}
 use Rattle.journal.specs.Journal.{batchStores}
 use Rattle.calls.specs.Path.{differs, renewPath, renewedRoot}
@@ -59,14 +59,17 @@ module _ {h : ℕ} {keys a k c : List ℕ} {line : ℕ} {n : Line} (found : Foun
   unfolding newBlock
   next-block = ap₂ {C = List ℕ} (λ (b : List ℕ) (i : ℕ). withMinor b (placeOf line) i) (block-found found) next-minor
 
-  next-cell : dataCell keys line text d ≡ lineCell keys line text (n .major) (n .minor + 1)
-  unfolding lineCell
-  next-cell = ap₂ {C = Cell} (λ (i j : ℕ). lineCell keys line text i j) (major-found found) next-minor
+  abbrev f : ℕ
+  f = family k
 
-  next-batch : writeBatch h keys line text d x ≡ lineCells h keys c line text (n .major) (n .minor + 1) next
+  next-cell : dataCell f keys line text d ≡ lineCell f keys line text (n .major) (n .minor + 1)
+  unfolding lineCell
+  next-cell = ap₂ {C = Cell} (λ (i j : ℕ). lineCell f keys line text i j) (major-found found) next-minor
+
+  next-batch : writeBatch h f keys line text d x ≡ lineCells h f keys c line text (n .major) (n .minor + 1) next
   unfolding writeBatch lineCells blockCells
   next-batch =
-      ap₂ {C = List Cell} (λ (i : ℕ) (b : List ℕ). (x ++ blockCells h p i b) ++ (dataCell keys line text d ∷ [])) next-minor next-block
+      ap₂ {C = List Cell} (λ (i : ℕ) (b : List ℕ). (x ++ blockCells h p i b) ++ (dataCell f keys line text d ∷ [])) next-minor next-block
       ∙ ap (λ (z : Cell). (x ++ blockCells h p (n .minor + 1) next) ++ (z ∷ [])) next-cell
 
   -- full, or the batch bs stored and the path renewed by the block b; t tells whether the block is stored
@@ -76,24 +79,24 @@ module _ {h : ℕ} {keys a k c : List ℕ} {line : ℕ} {n : Line} (found : Foun
       cond full (ended (Refused 26 0 0 0) a k c) (storing allowance m xs (Done (length xs) 0) (renewPath keys d p b (cond t 0 1) h))
 
   by-minor : (full : Bool) → eqb (n .minor) 127 ≡ full
-      → whole ≡ cond full (ended (Refused 26 0 0 0) a k c) (storedLine h keys line text (n .major) (n .minor + 1) next allowance m)
+      → whole ≡ cond full (ended (Refused 26 0 0 0) a k c) (storedLine h f keys line text (n .major) (n .minor + 1) next allowance m)
   unfolding writePath writeLoaded writeStores writtenCache
   by-minor full e =
       ap (writePath keys line text allowance m) (found .path)
-      ∙ ap (λ (i : ℕ). let xs = writeStores i keys line text d x in cond (eqb (lineMinor d line) 127) (ended (Refused 26 0 0 0) a k c)
+      ∙ ap (λ (i : ℕ). let xs = writeStores i f keys line text d x in cond (eqb (lineMinor d line) 127) (ended (Refused 26 0 0 0) a k c)
       (storing allowance m xs (Done (length xs) 0) (writtenCache i keys line d))) (sym (found .deep))
-      ∙ ap (λ (t : Bool). stored t (writeBatch h keys line text d x) (newBlock d line) (stopLoss d line))
+      ∙ ap (λ (t : Bool). stored t (writeBatch h f keys line text d x) (newBlock d line) (stopLoss d line))
       (ap (λ (i : ℕ). eqb i 127) (minor-found found) ∙ e)
       ∙ ap₂ {C = Called} (λ (bs : List Cell) (b : List ℕ). stored full bs b (stopLoss d line)) next-batch next-block
-      ∙ ap (λ (i : ℕ). stored full (lineCells h keys c line text (n .major) (n .minor + 1) next) next (eqb (lag i) 0)) next-minor
+      ∙ ap (λ (i : ℕ). stored full (lineCells h f keys c line text (n .major) (n .minor + 1) next) next (eqb (lag i) 0)) next-minor
 
   -- 26
   pub write-full : n .minor ≡ 127 → {r : Answer} → r ≡ Refused 26 0 0 0 → ended r a k c ≡ whole
-  write-full e f = rw f (sym (by-minor true (eq-eqb (n .minor) 127 e)))
+  write-full e g = rw g (sym (by-minor true (eq-eqb (n .minor) 127 e)))
 
-  pub write-stored : (n .minor ≡ 127 → ⊥) → {x : Called} → x ≡ storedLine h keys line text (n .major) (n .minor + 1) next allowance m
+  pub write-stored : (n .minor ≡ 127 → ⊥) → {x : Called} → x ≡ storedLine h f keys line text (n .major) (n .minor + 1) next allowance m
       → x ≡ whole
-  write-stored e f = f ∙ sym (by-minor false (ne-eqb (n .minor) 127 e))
+  write-stored e g = g ∙ sym (by-minor false (ne-eqb (n .minor) 127 e))
 
 -- ---- refused, or accepted
 

@@ -5,7 +5,7 @@ ghost use Prim.Native.Nat.{suc, _<_};
 ghost use lib.ListN.{length};
 ghost use Rattle.memory_map.specs.Map.{lines, pageOf, placeOf};
 ghost use Rattle.counter.specs.Counter.{withMinor};
-ghost use Rattle.control.specs.Control.{controlLength, depth as depthOf};
+ghost use Rattle.control.specs.Control.{controlLength, family as familyOf, depth as depthOf};
 ghost use Rattle.cache.specs.Cache.{formed, current};
 ghost use Rattle.node.specs.Sized.{Sized};
 ghost use Rattle.calls.specs.Call.{buffers, ended, pathOf};
@@ -34,15 +34,17 @@ fn raise(
     requires { ⌜ (length (now control) ≡ controlLength) × (Sized h (now array) (now cache) × ((formed h (now cache) ≡ true)
         × ((line < lines h) × (missing ≡ missingNodes (now cache) (pageOf line) (suc h))))) ⌝ }
     ensures { λ r. ⌜ ended r (now (array .exit)) (now (control .exit)) (now (cache .exit))
-        ≡ storedLine h (now (keys .entry)) line (now (text .entry)) major minor
+        ≡ storedLine h (familyOf (now (control .entry))) (now (keys .entry)) line (now (text .entry)) major minor
         (withMinor (current h (now (array .entry)) (now (cache .entry)) 0 (pageOf line)) (placeOf line) minor) allowance
         (buffers (now (array .entry)) (now (control .entry)) (now (cache .entry))) ⌝ }
 {
+    let family = control::family(control);
     let mut block = [0u8; 64];
     let old = node::current(h, array, cache, 0, memory_map::page_of(line));
     counter::with_minor(old, memory_map::place_of(line), minor, &mut block);
     line_store::store_line(
         h,
+        family,
         keys,
         control,
         array,

@@ -15,7 +15,7 @@ abbrev given : tie.After-slice-known4 → Module
 given c = let a = start c .args in buffers (a .array .now) (a .control .now) (a .cache .now)
 
 abbrev defined : tie.After-slice-known4 → Called
-defined c = let a = start c .args in format (a .keys .now) (a .depth) (given c)
+defined c = let a = start c .args in format (a .keys .now) (a .depth) (a .family) (given c)
 
 returns : tie.Need-returns
 returns c = wrong-call (start (c .before) .args .numbers .now) (c .if1 .taken) (given (c .before)) (defined (c .before))
@@ -26,7 +26,7 @@ format-requires c κs = search needs
 tell-requires : tie.Need-tell-requires
 tell-requires c κs =
     let call = c .before .before .before .before .before .before .before in
-    (call .before .before .before .before .if1 .left, code-small (call .format .ensures) (format-fits _ _ _))
+    (call .before .before .before .before .if1 .left, code-small (call .format .ensures) (format-fits _ _ _ _))
 
 same-length : tie.Need-same-length
 same-length c = search needs

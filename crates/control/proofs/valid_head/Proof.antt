@@ -2,30 +2,24 @@
 use borrow.Author.Needs.{needs}
 use mathlib.Core.Path.{_≡_, sym, _∙_}
 use native.Mathlib.Omega.{arith}
-use Rattle.words.specs.Bytes.{fromLe, part}
-use Rattle.control.specs.Control.{mark}
-use Rattle.control.proofs.Laws.{mark-bytes, wrong-mark, wrong-first, wrong-second, depth-low, depth-high, right-depth}
+use mathlib.Core.Bool.{true}
+use borrow.Author.Tests.{not-true, not-false}
+use Rattle.control.specs.Control.{validMark}
+use Rattle.control.proofs.Laws.{wrong-mark, wrong-first, wrong-second, depth-low, depth-high, right-depth}
 use Rattle.control.proofs.valid_head.Statement.{statement}
 use Rattle.control.proofs.valid_head.Tie as tie
 
-load32-requires : tie.Need-load32-requires
-load32-requires c κs = search needs
-
-slice-aggregate-load32 : tie.Need-slice-aggregate-load32
-slice-aggregate-load32 c = search needs
-
-load32-requires-2 : tie.Need-load32-requires-2
-load32-requires-2 c κs = search needs
+valid-mark-requires : tie.Need-valid-mark-requires
+valid-mark-requires c κs = search needs
 
 returns : tie.Need-returns
 returns c =
-    let at = c .before .before .before in
-    wrong-mark (at .before .before .args .control .now)
-    (λ e. c .if1 .taken (at .load32 .ensures ∙ e ∙ sym (c .before .load322 .ensures ∙ mark-bytes)))
+    let at = c .before in
+    wrong-mark (at .before .before .args .control .now) (sym (at .valid-mark .ensures) ∙ not-true (at .valid-mark .result) (c .if1 .taken))
 
 -- past the first test
-right-mark : (c : tie.Else1) → fromLe (part (c .before .before .before .before .before .args .control .now) 0 4) ≡ mark
-right-mark c = sym (c .before .before .before .load32 .ensures) ∙ c .if1 .left ∙ c .before .load322 .ensures ∙ mark-bytes
+right-mark : (c : tie.Else1) → validMark (c .before .before .before .args .control .now) ≡ true
+right-mark c = sym (c .before .valid-mark .ensures) ∙ not-false (c .before .valid-mark .result) (c .if1 .left)
 
 shared-slice-read-if2 : tie.Need-shared-slice-read-if2
 shared-slice-read-if2 c = search needs
@@ -33,7 +27,7 @@ shared-slice-read-if2 c = search needs
 returns-2 : tie.Need-returns-2
 returns-2 c =
     let m = c .before .before in
-    wrong-first (m .before .before .before .before .before .args .control .now) (right-mark m) (c .if2 .taken)
+    wrong-first (m .before .before .before .args .control .now) (right-mark m) (c .if2 .taken)
 
 shared-slice-read-if3 : tie.Need-shared-slice-read-if3
 shared-slice-read-if3 c = search needs
@@ -42,7 +36,7 @@ returns-3 : tie.Need-returns-3
 returns-3 c =
     let f = c .before .before in
     let m = f .before .before in
-    wrong-second (m .before .before .before .before .before .args .control .now) (right-mark m) (f .if2 .left) (c .if3 .taken)
+    wrong-second (m .before .before .before .args .control .now) (right-mark m) (f .if2 .left) (c .if3 .taken)
 
 shared-slice-read-if4 : tie.Need-shared-slice-read-if4
 shared-slice-read-if4 c = search needs
@@ -52,7 +46,7 @@ returns-4 c =
     let s = c .before .before in
     let f = s .before .before in
     let m = f .before .before in
-    depth-low (m .before .before .before .before .before .args .control .now) (right-mark m) (f .if2 .left) (s .if3 .left) (c .if4 .taken)
+    depth-low (m .before .before .before .args .control .now) (right-mark m) (f .if2 .left) (s .if3 .left) (c .if4 .taken)
 
 shared-slice-read-if5 : tie.Need-shared-slice-read-if5
 shared-slice-read-if5 c = search needs
@@ -62,7 +56,7 @@ returns-5 c =
     let s = c .before .before .before .before in
     let f = s .before .before in
     let m = f .before .before in
-    depth-high (m .before .before .before .before .before .args .control .now) (right-mark m) (f .if2 .left) (s .if3 .left)
+    depth-high (m .before .before .before .args .control .now) (right-mark m) (f .if2 .left) (s .if3 .left)
     (omega (arith, c .if5 .taken))
 
 shared-slice-read-result : tie.Need-shared-slice-read-result
@@ -74,16 +68,14 @@ returns-6 c =
     let s = d .before .before .before .before in
     let f = s .before .before in
     let m = f .before .before in
-    right-depth (m .before .before .before .before .before .args .control .now) (right-mark m) (f .if2 .left) (s .if3 .left)
+    right-depth (m .before .before .before .args .control .now) (right-mark m) (f .if2 .left) (s .if3 .left)
     (d .before .before .if4 .left) (d .if5 .left)
 
 pub valid-head-spec : {M : Type 1} → statement M
 valid-head-spec =
     tie.close
     (tie.spec
-    load32-requires
-    slice-aggregate-load32
-    load32-requires-2
+    valid-mark-requires
     returns
     shared-slice-read-if2
     returns-2

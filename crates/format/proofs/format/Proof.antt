@@ -29,7 +29,7 @@ refuse-requires : tie.Need-refuse-requires
 refuse-requires c κs = search needs
 
 returns : tie.Need-returns
-returns c = refused _ _ _ _ (c .before .before .refusal .ensures) (c .before .if1 .taken) (c .refuse .ensures)
+returns c = refused _ _ _ _ _ (c .before .before .refusal .ensures) (c .before .if1 .taken) (c .refuse .ensures)
 
 -- past the test
 abbrev start : tie.Else1 → tie.Start
@@ -38,8 +38,8 @@ start c = c .before .before .before .before .before .before .before .before .bef
 abbrev module-of : tie.Else1 → Module
 module-of c = let a = start c .args in buffers (a .array .now) (a .control .now) (a .cache .now)
 
-ok : (c : tie.Else1) → Formattable (start c .args .keys .now) (start c .args .depth) (module-of c)
-ok c = format-accepted _ _ _ (sym (c .before .refusal .ensures) ∙ c .if1 .left)
+ok : (c : tie.Else1) → Formattable (start c .args .keys .now) (start c .args .depth) (start c .args .family) (module-of c)
+ok c = format-accepted _ _ _ _ (sym (c .before .refusal .ensures) ∙ c .if1 .left)
 
 -- the array of zeros, and the tree in it
 abbrev tested : tie.After-zero → tie.Else1
@@ -111,7 +111,7 @@ returns-2 c =
     let at = tested (zero-at tree) in
     let s = start at .args in
     let root = root-fresh (s .keys .now) (s .depth) (tree .put-tree .ensures) (cell .node-cell .ensures) (tag .before .in-cell .ensures) in
-    done (s .keys .now) (s .depth) (module-of at) (sym (at .if1 .left) ∙ at .before .refusal .ensures) (tree .put-tree .ensures)
+    done (s .keys .now) (s .depth) (s .family) (module-of at) (sym (at .if1 .left) ∙ at .before .refusal .ensures) (tree .put-tree .ensures)
     (control .put-control .ensures) (root (tag .node-tag .ensures))
     (zeroed (s .cache .now) _ (ok at .fits .cache) (cache .zero2 .ensures))
 

@@ -3,7 +3,6 @@ use mathlib.Core.Path.{_∙_}
 use native.Mathlib.Omega.{arith}
 use borrow.Author.Needs.{needs}
 use lib.ListN.{length-set}
-use Rattle.control.proofs.Laws.{mark-bytes}
 use Rattle.format.proofs.Laws.{control-written}
 use Rattle.format.proofs.put_control.Statement.{statement}
 use Rattle.format.proofs.put_control.Tie as tie
@@ -11,11 +10,8 @@ use Rattle.format.proofs.put_control.Tie as tie
 zero-requires : tie.Need-zero-requires
 zero-requires c κs = search needs
 
-slice-aggregate-load32 : tie.Need-slice-aggregate-load32
-slice-aggregate-load32 c = search needs
-
-load32-requires : tie.Need-load32-requires
-load32-requires c κs = search needs
+mark-of-requires : tie.Need-mark-of-requires
+mark-of-requires c κs = search needs
 
 store32-requires : tie.Need-store32-requires
 store32-requires c κs = search needs
@@ -39,25 +35,23 @@ same-length : tie.Need-same-length
 same-length c =
     let root = c .before .before in
     let mark = root .before .before .before .before in
-    root .store64 .kept .0 ∙ simp length-set (mark .store32 .kept .0 ∙ mark .before .before .before .before .before .before .zero .kept .0)
+    root .store64 .kept .0 ∙ simp length-set (mark .store32 .kept .0 ∙ mark .before .before .before .before .before .zero .kept .0)
 
 returns : tie.Need-returns
 returns c =
     let root = c .before .before in
     let mark = root .before .before .before .before in
-    let zeros = mark .before .before .before .before .before .before in
+    let zeros = mark .before .before .before .before .before in
     let start = zeros .before .before .before .args in
-    control-written (start .control .now) (start .h) (start .root) (zeros .before .before .before .pre .1) (zeros .zero .ensures)
-    (mark .before .load32 .ensures ∙ mark-bytes) (mark .store32 .ensures)
-    (root .store64 .ensures)
+    control-written (start .control .now) (start .h) (start .family) (start .root) (zeros .before .before .before .pre .1)
+    (zeros .zero .ensures) (mark .before .mark-of .ensures) (mark .store32 .ensures) (root .store64 .ensures)
 
 pub put-control-spec : {M : Type 1} → statement M
 put-control-spec =
     tie.close
     (tie.spec
     zero-requires
-    slice-aggregate-load32
-    load32-requires
+    mark-of-requires
     store32-requires
     slice-write-control
     cast-control

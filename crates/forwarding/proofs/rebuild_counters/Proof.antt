@@ -26,22 +26,22 @@ use Rattle.forwarding.proofs.rebuild_counters.Statement.{statement}
 use Rattle.forwarding.proofs.rebuild_counters.Tie as tie
 
 abbrev Inv-loop : tie.InvT-loop
-Inv-loop h keys control array image owners sum₀ number₀ line₀ s owner page major minors₀ n j₀ sum number line minors j =
-    (j ≤ n) × ((n ≤ 64) × Forwarding (sourceIs keys array major) (64 * page) minors₀ sum₀ minors j sum)
+Inv-loop h keys control array image owners family sum₀ number₀ line₀ s owner page major minors₀ n j₀ sum number line minors j =
+    (j ≤ n) × ((n ≤ 64) × Forwarding (sourceIs family keys array major) (64 * page) minors₀ sum₀ minors j sum)
 
 abbrev μ-loop : tie.MeasureT-loop
-μ-loop h keys control array image owners sum₀ number₀ line₀ s owner page major minors₀ n j₀ sum number line minors j = n - j
+μ-loop h keys control array image owners family sum₀ number₀ line₀ s owner page major minors₀ n j₀ sum number line minors j = n - j
 
 abbrev Inv-slots : tie.InvT-slots
-Inv-slots h keys control array image₀ owners sum₀ number₀ line₀ s₀ image sum number line s =
+Inv-slots h keys control array image₀ owners family sum₀ number₀ line₀ s₀ image sum number line s =
     Rebuilding h keys (media array control) owners image₀ image sum s
 
 abbrev μ-slots : tie.MeasureT-slots
-μ-slots h keys control array image₀ owners sum₀ number₀ line₀ s₀ image sum number line s = 4 - s
+μ-slots h keys control array image₀ owners family sum₀ number₀ line₀ s₀ image sum number line s = 4 - s
 
 -- what is lent
 abbrev start : tie.At-slots Inv-loop μ-loop Inv-slots μ-slots → tie.Start Inv-loop μ-loop Inv-slots μ-slots
-start c = c .before .before .before .before .before
+start c = c .before .before .before .before .before .before
 
 abbrev lent : tie.At-slots Inv-loop μ-loop Inv-slots μ-slots → Media
 lent c = media (start c .args .array .now) (start c .args .control .now)
@@ -64,9 +64,12 @@ inside c =
     subst (λ (l : ℕ). InMap (s .args .h) (node l (getD (s .args .t5) (at .slots .s) 0 - 1))) (level-low (at .slots .s) low)
     (placed-node (s .args .h) (s .args .t5) (s .pre .1 .1 .1) (at .slots .s) _ (within at low) refl (c .if1 .taken))
 
+family-requires : tie.Need-family-requires Inv-loop μ-loop Inv-slots μ-slots
+family-requires c κs = c .before .before .before .before .pre .1 .0
+
 slots-holds : tie.Need-slots-holds Inv-loop μ-loop Inv-slots μ-slots
 slots-holds c =
-    let s = c .before .before .before .before in
+    let s = c .before .before .before .before .before in
     record { most = zero-le; few = zero-le; full = s .pre .1 .1 .0 .cache; rest = refl }
 
 mul-owner : tie.Need-mul-owner Inv-loop μ-loop Inv-slots μ-slots
@@ -138,12 +141,15 @@ step-requires : tie.Need-step-requires Inv-loop μ-loop Inv-slots μ-slots
 step-requires c κs =
     let at = c .before in
     let s = start (slot at .before .before) in (
-      at .loop .inv .1 .1 .few .at (at .loop .j),
-      omega (
-        arith,
-        page-lines (s .args .h) (s .args .array .now) _ (s .pre .1 .1 .0 .array) (inside (slot at)),
-        c .loop-test .taken,
-        at .loop .inv .1 .0,
+      s .pre .0,
+      (
+        at .loop .inv .1 .1 .few .at (at .loop .j),
+        omega (
+          arith,
+          page-lines (s .args .h) (s .args .array .now) _ (s .pre .1 .1 .0 .array) (inside (slot at)),
+          c .loop-test .taken,
+          at .loop .inv .1 .0,
+        ),
       ),
     )
 
@@ -231,7 +237,7 @@ slots-again c =
     ⊎-elim
     (λ w. rebuilding-same (a .h) (a .keys .now) (lent at) (a .t5)
     (rebuilding-next (a .h) (a .keys .now) (lent at) (a .t5) (ten at) (at .slots .inv) p (w .0 .taken) (w .1 .ensures) (w .2 .ensures)
-    (w .5 .ensures) (w .3 .ensures) (w .8 .inv .1 .1) (w .7 .ensures) (w .8 .inv .0) (w .9 .left)
+    (w .5 .ensures) (w .3 .ensures) (at .before .family .ensures) (w .8 .inv .1 .1) (w .7 .ensures) (w .8 .inv .0) (w .9 .left)
     (omega (arith, w .8 .inv .0, w .8 .inv .1 .0)) (w .12 .ensures) (w .12 .kept .0)) (w .15) (w .16))
     (λ w. rebuilding-same (a .h) (a .keys .now) (lent at) (a .t5)
     (rebuilding-empty (a .h) (a .keys .now) (lent at) (a .t5) (ten at) (at .slots .inv) p (w .0 .left)) (w .1) (w .2))
@@ -249,7 +255,7 @@ returns c =
     ⊎-elim (λ w. absurd (omega (arith, w .0 .left)))
     (λ w. ap₂ {C = Forwarded} failed (w .14) (w .15)
     ∙ sym (rebuilding-fails (a .h) (a .keys .now) (lent at) (a .t5) (ten at) (at .slots .inv) (w .0 .taken) (w .1 .taken)
-    (w .2 .ensures) (w .3 .ensures) (w .6 .ensures) (w .4 .ensures) (w .9 .inv .1 .1) (w .8 .ensures)
+    (w .2 .ensures) (w .3 .ensures) (w .6 .ensures) (w .4 .ensures) (at .before .family .ensures) (w .9 .inv .1 .1) (w .8 .ensures)
     (w .10 .taken) (w .11 .ensures) (w .12 .taken)))
     (left .slots-test .came)
 
@@ -276,6 +282,7 @@ rebuild-counters-spec =
     μ-loop
     Inv-slots
     μ-slots
+    family-requires
     slots-holds
     mul-owner
     array-read-owner

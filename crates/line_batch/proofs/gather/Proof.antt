@@ -34,7 +34,8 @@ few c =
     subst (λ (p : ℕ). Few (a .h) (length (pathCells (a .h) (a .cache .now) p (suc (a .h))))
     (length (blockCells (a .h) p (a .minor) (a .block .now))) p (a .line))
     (sym (c .page-of .ensures))
-    (let all = cells-length (a .h) (a .keys .now) (a .cache .now) (a .line) (a .text .now) (a .major) (a .minor) (a .block .now) in
+    (let all =
+    cells-length (a .h) (a .family) (a .keys .now) (a .cache .now) (a .line) (a .text .now) (a .major) (a .minor) (a .block .now) in
     record {
       path = omega (arith, all, s .pre .1 .1 .1 .1);
       both = omega (arith, all, s .pre .1 .1 .1 .1);
@@ -119,9 +120,10 @@ returns c =
     let put = block .before .before .before .before in
     let at = put .before .before in
     let a = start at .args in
-    gathered (a .h) (a .keys .now) (a .cache .now) (a .line) (a .text .now) (a .major) (a .minor) (a .block .now) (a .allowance)
+    gathered (a .h) (a .family) (a .keys .now) (a .cache .now) (a .line) (a .text .now) (a .major) (a .minor) (a .block .now) (a .allowance)
     (at .page-of .result) (at .page-of .ensures)
-    (a .control .now) (put .put-path .last .1 .1 .1 .1 .0) (block .put-block .last .1 .1 .1 .1 .0) (last .put-data .last .1 .1 .1 .1 .1 .0)
+    (a .control .now) (put .put-path .last .1 .1 .1 .1 .0) (block .put-block .last .1 .1 .1 .1 .0)
+    (last .put-data .last .1 .1 .1 .1 .1 .1 .0)
     (put .put-path .result) (block .put-block .result)
     (put .put-path .ensures .0) (put .put-path .ensures .1) (block .put-block .ensures .0) (block .put-block .ensures .1)
     (last .put-data .ensures)

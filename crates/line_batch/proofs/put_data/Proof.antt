@@ -54,10 +54,10 @@ returns c =
     let start = test .before .before .before .before in
     let a = start .args in
     let e = call .seal .ensures in
-    let x = lineCell (a .keys .now) (a .line) (a .text .now) (a .major) (a .minor) in
-    let full = line-cell-length (a .keys .now) (a .line) (a .text .now) (a .major) (a .minor) (start .pre .1 .1 .0) in
+    let x = lineCell (a .family) (a .keys .now) (a .line) (a .text .now) (a .major) (a .minor) in
+    let full = line-cell-length (a .family) (a .keys .now) (a .line) (a .text .now) (a .major) (a .minor) (start .pre .1 .1 .0) in
     let wide : 72 ≡ placeAt (a .n) + 80 - (placeAt (a .n) + 8) = omega arith in
-    part-put (first .store64 .last .0) (placeAt (a .n) + 8) (call .seal .last .1 .1 .1 .1 .1 .0)
+    part-put (first .store64 .last .0) (placeAt (a .n) + 8) (call .seal .last .1 .1 .1 .1 .1 .1 .0)
     (placeAt (a .n) + 80 - (placeAt (a .n) + 8)) (ap length e ∙ full ∙ wide)
     ∙ ap₂ {C = List ℕ} (λ (k b : List ℕ). put k (placeAt (a .n) + 8) b) (first .store64 .ensures) e
     ∙ line-put (a .control .now) (a .n) (a .allowance) x (start .pre .1 .1 .1 .1 .0) (start .pre .1 .1 .1 .1 .1) (test .if1 .taken) full
@@ -66,7 +66,7 @@ returns c =
 returns-2 : tie.Need-returns-2
 returns-2 c =
     let a = c .before .before .before .before .args in
-    staged-past (a .control .now) (a .n) (a .allowance) (lineCell (a .keys .now) (a .line) (a .text .now) (a .major) (a .minor))
+    staged-past (a .control .now) (a .n) (a .allowance) (lineCell (a .family) (a .keys .now) (a .line) (a .text .now) (a .major) (a .minor))
     (omega (arith, c .if1 .left))
 
 pub put-data-spec : {M : Type 1} → statement M

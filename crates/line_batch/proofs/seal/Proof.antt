@@ -52,7 +52,7 @@ returns c =
     let s = start side in
     let a = s .args in
     c .before .before .store64 .ensures
-    ∙ seal-bytes (a .keys .now) (a .line) (a .text .now) (a .major) (a .minor) (s .pre .1 .1 .0) (a .cell .now)
+    ∙ seal-bytes (a .family) (a .keys .now) (a .line) (a .text .now) (a .major) (a .minor) (s .pre .1 .1 .0) (a .cell .now)
     (call .apply .last .1 .1 .1 .1 .1 .0) (side .word .result)
     (s .pre .1 .1 .1 .1) (call .apply .ensures) (side .word .ensures)
 

@@ -81,7 +81,10 @@ gather-requires c κs =
       s .pre .0,
       (
         (y .sized .deep, (y .sized .flat, (y .sized .cache, (y .shaped, lent at .inside)))),
-        (y .control, (s .pre .1 .1 .1 .1 .1, batch-length y (s .args .keys .now) (lent at) (s .args .major) (s .args .minor) .1)),
+        (
+          y .control,
+          (s .pre .1 .1 .1 .1 .1, batch-length y (s .args .family) (s .args .keys .now) (lent at) (s .args .major) (s .args .minor) .1),
+        ),
       ),
     )
 
@@ -91,13 +94,13 @@ tagged c = c .before .before .before
 
 staged : (c : tie.After-gather) → let a = start (found (tagged c)) .args in
     Staged (a .h) (a .allowance) (a .array .now) (a .control .now)
-    (lineCells (a .h) (a .keys .now) (a .cache .now) (a .line) (a .text .now) (a .major) (a .minor) (a .block .now))
-    (c .gather .last .1 .1 .1 .1 .1 .1 .1 .1 .1 .0) (c .gather .result)
+    (lineCells (a .h) (a .family) (a .keys .now) (a .cache .now) (a .line) (a .text .now) (a .major) (a .minor) (a .block .now))
+    (c .gather .last .1 .1 .1 .1 .1 .1 .1 .1 .1 .1 .0) (c .gather .result)
 staged c =
     let tags = tagged c in
     let at = found tags in
     let a = start at .args in
-    staging (ready at) (a .keys .now) (lent at) (a .major) (a .minor) (c .gather .ensures .0) (c .gather .ensures .1)
+    staging (ready at) (a .family) (a .keys .now) (lent at) (a .major) (a .minor) (c .gather .ensures .0) (c .gather .ensures .1)
 
 mul-root : tie.Need-mul-root
 mul-root c = search needs
@@ -109,7 +112,7 @@ run-requires : tie.Need-run-requires
 run-requires c κs =
     let made = c .before .before .before .before in
     let s = staged made in (
-      made .gather .kept .1 .1 .1 .1 .1 .1 .1 .1 .1 .0 ∙ ready (found (tagged made)) .control,
+      made .gather .kept .1 .1 .1 .1 .1 .1 .1 .1 .1 .1 .0 ∙ ready (found (tagged made)) .control,
       ((omega (arith, s .some, s .number), omega (arith, s .few, s .number)), staged-inside s),
     )
 
@@ -121,7 +124,7 @@ small : (c : tie.After-gather) → c .gather .result ≤ 8
 small c = let s = staged c in omega (arith, s .few, s .number)
 
 ran : (c : tie.After-run) → let g = made c in let tags = tagged g in let a = start (found tags) .args in
-    Ran (a .array .now) (g .gather .last .1 .1 .1 .1 .1 .1 .1 .1 .1 .0) (g .gather .result) (getD (tags .path-tags .result) (a .h) 0)
+    Ran (a .array .now) (g .gather .last .1 .1 .1 .1 .1 .1 .1 .1 .1 .1 .0) (g .gather .result) (getD (tags .path-tags .result) (a .h) 0)
     (a .allowance)
     (media (c .run .last .0) (c .run .last .1 .0)) (c .run .result)
 ran c = record { left = c .run .ensures .0; number = c .run .ensures .1 }
@@ -148,7 +151,7 @@ returns c =
     let tags = tagged g in
     let at = found tags in
     let a = start at .args in
-    write-cut (ready at) (a .keys .now) (lent at) (a .major) (a .minor) (tags .path-tags .result) (known tags) (staged g)
+    write-cut (ready at) (a .family) (a .keys .now) (lent at) (a .major) (a .minor) (tags .path-tags .result) (known tags) (staged g)
     refl (ran r) _ (c .if1 .taken)
 
 -- the stores are made
@@ -209,7 +212,7 @@ returns-2 c =
     let t = tags .path-tags .result in
     let b = a .block .now in
     let f : ℕ = cond (eqb (lag (a .minor)) 0) 0 1 in
-    write-done (ready at) (a .keys .now) (lent at) (a .major) (a .minor) t (known tags) (staged g)
+    write-done (ready at) (a .family) (a .keys .now) (lent at) (a .major) (a .minor) t (known tags) (staged g)
     refl (ran r) f (test .if1 .left) (new .renew-path .last .1 .1 .1 .1 .1 .0)
     (new .renew-path .ensures
     ∙ ap₂ {C = List ℕ} (λ (x : List ℕ) (i : ℕ). renewedBy x (at .page-of .result) b i t (a .h)) (load .load-missing .ensures)

@@ -20,7 +20,7 @@ returns : tie.Need-returns
 returns c =
     let a = c .before .before .before .before .args in
     c .matches .ensures
-    ∙ ap (λ (l : List _). sideFits (a .keys .now) l (a .line) (a .major) (a .minor)) (c .before .cell .ensures)
+    ∙ ap (λ (l : List _). sideFits (a .family) (a .keys .now) l (a .line) (a .major) (a .minor)) (c .before .cell .ensures)
 
 pub side-ok-spec : {M : Type 1} → statement M
 side-ok-spec = tie.close (tie.spec cell-requires matches-requires returns)

@@ -10,14 +10,14 @@ use lib.ListN.{length}
 use Rattle.memory_map.specs.Map.{pageOf}
 use Rattle.memory_map.proofs.Laws.{lines-small}
 use Rattle.answer.specs.declared.Answer.the-variants.{Done}
-use Rattle.control.specs.Control.{root}
+use Rattle.control.specs.Control.{family, root}
 use Rattle.node.proofs.Laws.{line-room}
 use Rattle.calls.specs.Call.{buffers, ended, storing}
 use Rattle.path.specs.Told.{refusalOf}
 use Rattle.call_laws.specs.Walk.{missing, pathStores, withPath}
 use Rattle.path.proofs.Ready.{Ready, Found, ready-of, line-differs, line-found, minor-small}
 use Rattle.read.proofs.Laws.{not-done}
-use Rattle.read.proofs.Reading.{sideIs, read-differs, read-side, read-cut, read-done}
+use Rattle.read.proofs.Reading.{sideIs, side-told, read-differs, read-side, read-cut, read-done}
 use Rattle.read.proofs.read_line.Statement.{statement}
 use Rattle.read.proofs.read_line.Tie as tie
 
@@ -87,8 +87,11 @@ loads c =
 abbrev seen : tie.After-struct-known → tie.After-path
 seen c = c .before .before
 
+family-requires : tie.Need-family-requires
+family-requires c κs = search needs
+
 side-ok-requires : tie.Need-side-ok-requires
-side-ok-requires c κs = let at = entered (seen (c .before .before)) in (start at .pre .0, room at)
+side-ok-requires c κs = let at = entered (seen (c .before .before .before .before)) in (start at .pre .0, room at)
 
 refuse-requires : tie.Need-refuse-requires
 refuse-requires c κs = search needs
@@ -105,16 +108,22 @@ same-length-6 c = search needs
 returns-2 : tie.Need-returns-2
 returns-2 c =
     let side = c .before .before in
-    let path = seen (side .before .before .before) in
+    let told = side .before .before in
+    let path = seen (told .before .before .before) in
     let a = start (entered path) .args in
-    read-side (loads path .1) (a .allowance) (a .out .now) (side .before .before .if1 .taken)
-    (sym (side .side-ok .ensures) ∙ not-true (side .side-ok .result) (c .before .if2 .taken)) (c .refuse .ensures)
+    read-side (loads path .1) (a .allowance) (a .out .now) (told .before .before .if1 .taken)
+    (side-told (loads path .1) (told .family .ensures) (side .side-ok .ensures)
+    (not-true (side .side-ok .result) (c .before .if2 .taken)))
+    (c .refuse .ensures)
 
 -- its side bytes are right, or it was never written
 passes : (c : tie.Joined1)
     → let path = seen (c .before) in let a = start (entered path) .args in let r = path .before .before .find-line .result in
-    (r .minor ≡ 0) ⊎ (sideIs (a .keys .now) (a .array .now) (a .line) r ≡ true)
-passes c = ⊎-elim (λ w. inr (sym (w .2 .ensures) ∙ not-false (w .2 .result) (w .3 .left))) (λ w. inl (w .left)) (c .if1 .came)
+    (r .minor ≡ 0) ⊎ (sideIs (family (a .control .now)) (a .keys .now) (a .array .now) (a .line) r ≡ true)
+passes c =
+    let found = loads (seen (c .before)) .1 in
+    ⊎-elim (λ w. inr (side-told found (w .2 .ensures) (w .4 .ensures) (not-false (w .4 .result) (w .5 .left)))) (λ w. inl (w .left))
+    (c .if1 .came)
 
 page-of-requires : tie.Need-page-of-requires
 page-of-requires c κs = search needs
@@ -228,6 +237,7 @@ read-line-spec =
     same-length-2
     same-length-3
     returns
+    family-requires
     side-ok-requires
     refuse-requires
     same-length-4

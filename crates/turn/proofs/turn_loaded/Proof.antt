@@ -80,18 +80,21 @@ slice-aggregate-places c = search needs
 places-requires : tie.Need-places-requires
 places-requires c κs = search needs
 
+family-requires : tie.Need-family-requires
+family-requires c κs = search needs
+
 slice-aggregate-bad-line : tie.Need-slice-aggregate-bad-line
 slice-aggregate-bad-line c = search needs
 
 bad-line-requires : tie.Need-bad-line-requires
 bad-line-requires c κs =
-    let u = c .before .before .before .before .before .before in
+    let u = c .before .before .before .before .before .before .before .before in
     let at = known (found u .before) in
     (start at .pre .0 .0, (page-room (ready at), ap length (are-minors u) ∙ length-minors _))
 
 -- the lines are looked at
 abbrev looked : tie.After-bad-line → tie.After-unpack
-looked c = c .before .before .before .before .before .before .before
+looked c = c .before .before .before .before .before .before .before .before .before
 
 enum-known-bad : tie.Need-enum-known-bad
 enum-known-bad c = search needs
@@ -115,8 +118,8 @@ returns-2 c =
     let at = known (found u .before) in
     let a = start at .args in
     turn-bad (ready at) (a .keys .now) (a .allowance) (is-major (found u)) (u .before .before .if1 .left) (are-minors u) _
-    (look .before .before .before .places .ensures) (look .bad-line .ensures) (c .before .before .bad .given .1)
-    (c .refuse2 .ensures)
+    (look .before .before .before .before .before .places .ensures) (look .before .before .before .family .ensures)
+    (look .bad-line .ensures) (c .before .before .bad .given .1) (c .refuse2 .ensures)
 
 enum-told : tie.Need-enum-told
 enum-told c = search needs
@@ -143,7 +146,7 @@ store-page-requires c κs =
           major-is = is-major (found u);
           minors-is = are-minors u;
           next = more (u .before .before);
-          places = turn-places y (are-minors u) (look .before .before .before .places .ensures);
+          places = turn-places y (are-minors u) (look .before .before .before .before .before .places .ensures);
         },
       ),
     )
@@ -167,7 +170,8 @@ returns-3 c =
     let a = start at .args in
     call .store-page .ensures
     ∙ turn-stored (ready at) (a .keys .now) (a .allowance) (is-major (found u)) (u .before .before .if1 .left) (are-minors u) _
-    (look .before .before .before .places .ensures) (look .bad-line .ensures) (told .enum-told .given .1)
+    (look .before .before .before .before .before .places .ensures) (look .before .before .before .family .ensures)
+    (look .bad-line .ensures) (told .enum-told .given .1)
 
 pub turn-loaded-spec : {M : Type 1} → statement M
 turn-loaded-spec =
@@ -183,6 +187,7 @@ turn-loaded-spec =
     unpack-requires
     slice-aggregate-places
     places-requires
+    family-requires
     slice-aggregate-bad-line
     bad-line-requires
     enum-known-bad

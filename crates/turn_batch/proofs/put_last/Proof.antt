@@ -33,7 +33,7 @@ returns : tie.Need-returns
 returns c =
     let call = c .before .before .before in
     let a = start (call .before .before .before) .args in
-    let f = freshLine (a .keys .now) (a .array .now) (a .p) (a .major) (a .minors .now) in
+    let f = freshLine (a .family) (a .keys .now) (a .array .now) (a .p) (a .major) (a .minors .now) in
     let k = closed-none (a .h) (a .p) (a .block .now) f (a .allowance) (a .control .now) (a .n) (call .put-cell .last .0)
     (call .before .before .node-cell .ensures) (call .put-cell .ensures) (a .rest) (c .if1 .taken) in
     (k .cells, k .number ∙ ap (λ (m : ℕ). a .n + suc m) (length-map (setBits (a .rest)) f))
@@ -90,10 +90,10 @@ returns-2 c =
     let block = at .before .before .before .before in
     let s = found at in
     let a = s .args in
-    let f = freshLine (a .keys .now) (a .array .now) (a .p) (a .major) (a .minors .now) in
+    let f = freshLine (a .family) (a .keys .now) (a .array .now) (a .p) (a .major) (a .minors .now) in
     let k = closed-one (a .h) (a .p) (a .block .now) f (a .allowance) (a .control .now) (a .n) (block .put-cell .last .0)
     (block .before .before .node-cell .ensures) (block .put-cell .ensures) (a .rest) (at .before .if1 .left) (s .fits .rest .fits)
-    (s .pre .1 .0) (at .lowest .result) (at .lowest .ensures .0) (put .put-line .last .1 .1 .1 .1 .1 .0) (put .put-line .ensures) in
+    (s .pre .1 .0) (at .lowest .result) (at .lowest .ensures .0) (put .put-line .last .1 .1 .1 .1 .1 .1 .0) (put .put-line .ensures) in
     (k .cells, k .number ∙ ap (λ (m : ℕ). a .n + suc m) (length-map (setBits (a .rest)) f))
 
 pub put-last-spec : {M : Type 1} → statement M

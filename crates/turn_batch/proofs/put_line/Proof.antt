@@ -60,7 +60,7 @@ returns c =
     let a = start .args in
     call .put-data .ensures
     ∙ ap₂ {C = List ℕ} (λ (text : List ℕ) (ma : ℕ).
-    staged (a .allowance) (a .n) (lineCell (a .keys .now) (a .line) text ma 1) (a .control .now))
+    staged (a .allowance) (a .n) (lineCell (a .family) (a .keys .now) (a .line) text ma 1) (a .control .now))
     (sealed .apply .ensures
     ∙ ap (λ (b : List ℕ). xorBytes b (pad (a .keys .now) (a .line) (a .major) (a .minor))) (cell .in-cell .ensures))
     (add-one (a .major))
@@ -68,8 +68,8 @@ returns c =
 returns-2 : tie.Need-returns-2
 returns-2 c =
     let a = c .before .before .before .before .args in
-    staged-past (a .control .now) (a .n) (a .allowance) (freshCell (a .keys .now) (a .array .now) (a .line) (a .major) (a .minor))
-    (omega (arith, c .if1 .left))
+    staged-past (a .control .now) (a .n) (a .allowance)
+    (freshCell (a .family) (a .keys .now) (a .array .now) (a .line) (a .major) (a .minor)) (omega (arith, c .if1 .left))
 
 pub put-line-spec : {M : Type 1} → statement M
 put-line-spec =

@@ -13,11 +13,11 @@ use Rattle.turn_check.proofs.bad_line.Statement.{statement}
 use Rattle.turn_check.proofs.bad_line.Tie as tie
 
 abbrev Inv-loop : tie.InvT-loop
-Inv-loop keys array p major minors mask left₀ left =
-    (firstBad keys array p major minors (setBits mask) ≡ firstBad keys array p major minors (setBits left)) × (left < 2 ^ 64)
+Inv-loop family keys array p major minors mask left₀ left =
+    (firstBad family keys array p major minors (setBits mask) ≡ firstBad family keys array p major minors (setBits left)) × (left < 2 ^ 64)
 
 abbrev μ-loop : tie.MeasureT-loop
-μ-loop keys array p major minors mask left₀ left = length (setBits left)
+μ-loop family keys array p major minors mask left₀ left = length (setBits left)
 
 loop-holds : tie.Need-loop-holds Inv-loop μ-loop
 loop-holds c = (refl, c .before .before .before .fits .mask .fits)
@@ -41,7 +41,7 @@ returns : tie.Need-returns Inv-loop μ-loop
 returns c =
     let low = c .before .before .before in
     let at = low .before .before in
-    bad-zero _ _ _ _ _ (at .loop .left) (low .before .loop-test .taken) (at .loop .inv .1) (low .lowest .ensures .0)
+    bad-zero _ _ _ _ _ _ (at .loop .left) (low .before .loop-test .taken) (at .loop .inv .1) (low .lowest .ensures .0)
     (c .before .wide .ensures) (c .if1 .taken)
     ∙ sym (at .loop .inv .0)
 
@@ -53,7 +53,7 @@ returns-2 c =
     let test = c .before .before in
     let low = test .before .before .before in
     let at = low .before .before in
-    bad-side _ _ _ _ _ (at .loop .left) (low .before .loop-test .taken) (at .loop .inv .1) (low .lowest .ensures .0)
+    bad-side _ _ _ _ _ _ (at .loop .left) (low .before .loop-test .taken) (at .loop .inv .1) (low .lowest .ensures .0)
     (test .before .wide .ensures) (test .if1 .left)
     (sym (c .before .side-ok .ensures) ∙ not-true (c .before .side-ok .result) (c .if2 .taken))
     ∙ sym (at .loop .inv .0)
@@ -79,7 +79,7 @@ loop-again c =
     let low = test .before .before .before in
     let at = low .before .before in (
       at .loop .inv .0
-          ∙ bad-later _ _ _ _ _ (at .loop .left) (low .before .loop-test .taken) (at .loop .inv .1) (low .lowest .ensures .0)
+          ∙ bad-later _ _ _ _ _ _ (at .loop .left) (low .before .loop-test .taken) (at .loop .inv .1) (low .lowest .ensures .0)
           (test .before .wide .ensures) (test .if1 .left)
           (sym (c .before .before .side-ok .ensures) ∙ not-false (c .before .before .side-ok .result) (c .before .if2 .left))
           (c .without-lowest .ensures),
@@ -89,7 +89,7 @@ loop-again c =
 returns-3 : tie.Need-returns-3 Inv-loop μ-loop
 returns-3 c =
     let at = c .before in
-    sym (at .loop .inv .0 ∙ bad-none _ _ _ _ _ (at .loop .left) (omega (arith, c .loop-test .left)))
+    sym (at .loop .inv .0 ∙ bad-none _ _ _ _ _ _ (at .loop .left) (omega (arith, c .loop-test .left)))
 
 pub bad-line-spec : {M : Type 1} → statement M
 bad-line-spec =

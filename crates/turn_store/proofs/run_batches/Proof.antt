@@ -17,13 +17,16 @@ use Rattle.turn_store.proofs.run_batches.Tie as tie
 
 -- whatever record the first batch's cells are staged in
 abbrev Inv-loop : tie.InvT-loop
-Inv-loop h keys control₀ array₀ cache p missing major minors mask block root allowance old l₀ cells₀ m₀ control array left cells rest =
-    (k : List ℕ) → Begins h array₀ k cache p missing major minors mask allowance control₀ cells₀
-    → Turning h keys array₀ k cache p old allowance control array left cells rest
+Inv-loop h keys control₀ array₀ cache p missing major minors mask b root allowance family old l₀ held₀ m₀ control array left held rest =
+    (k : List ℕ) → Begins h array₀ k cache p missing major minors mask allowance control₀ held₀
+    → Turning h family keys array₀ k cache p old allowance control array left held rest
 
 abbrev μ-loop : tie.MeasureT-loop
-μ-loop h keys control₀ array₀ cache p missing major minors mask block root allowance old l₀ cells₀ m₀ control array left cells rest =
+μ-loop h keys control₀ array₀ cache p missing major minors mask b root allowance family old l₀ held₀ m₀ control array left held rest =
     length (setBits rest)
+
+family-requires : tie.Need-family-requires Inv-loop μ-loop
+family-requires c κs = search needs
 
 root-requires : tie.Need-root-requires Inv-loop μ-loop
 root-requires c κs = search needs
@@ -48,12 +51,12 @@ ready c =
 
 put-front-requires : tie.Need-put-front-requires Inv-loop μ-loop
 put-front-requires c κs =
-    let y = start (c .before .before .before .before) .pre .0 .1 in
+    let y = start (c .before .before .before .before .before .before) .pre .0 .1 in
     ((y .sized, (y .shaped, (y .page, (y .control, y .path)))), y .places)
 
 -- what the first batch starts with is staged
 abbrev known : tie.After-slice-known3 Inv-loop μ-loop → tie.After-shared-slice-known4 Inv-loop μ-loop
-known c = c .before .before .before .before .before .before .before
+known c = c .before .before .before .before .before .before .before .before .before
 
 begins : (c : tie.After-slice-known3 Inv-loop μ-loop) → let a = start (known c) .args in
     Begins (a .h) (a .array .now) (a .control .now) (a .cache .now) (a .p) (a .missing) (a .major) (a .minors .now) (a .mask) (a .allowance)
@@ -70,16 +73,16 @@ begins c =
     }
 
 loop-holds : tie.Need-loop-holds Inv-loop μ-loop
-loop-holds c = λ k g. let a = start (known c) .args in turning-none (a .keys .now) _ g
+loop-holds c = λ k g. let a = start (known c) .args in turning-none _ (a .keys .now) _ g
 
 -- at the head of the loop
 abbrev entry : tie.At-loop Inv-loop μ-loop → tie.Start Inv-loop μ-loop
 entry c = start (known (c .before))
 
 turning : (c : tie.At-loop Inv-loop μ-loop) → let a = entry c .args in
-    Turning (a .h) (a .keys .now) (a .array .now) (a .control .now) (a .cache .now) (a .p)
-    (c .before .before .before .before .before .before .root .result) (a .allowance) (c .loop .control) (c .loop .array) (c .loop .left)
-    (c .loop .cells) (c .loop .rest)
+    Turning (a .h) (c .before .before .before .before .before .before .before .before .family .result) (a .keys .now) (a .array .now)
+    (a .control .now) (a .cache .now) (a .p) (c .before .before .before .before .before .before .root .result) (a .allowance)
+    (c .loop .control) (c .loop .array) (c .loop .left) (c .loop .held) (c .loop .rest)
 turning c = c .loop .inv (entry c .args .control .now) (begins (c .before))
 
 remaining-requires : tie.Need-remaining-requires Inv-loop μ-loop
@@ -134,11 +137,11 @@ abbrev low : tie.After-without-lowest Inv-loop μ-loop → tie.After-lowest Inv-
 low c = c .before .before .before .before .before .before .before
 
 line : (c : tie.After-without-lowest Inv-loop μ-loop) → let at = turn (low c) in
-    Runs (at .loop .array) (c .before .before .before .put-line .last .1 .1 .1 .1 .1 .0) (at .loop .cells + 1) (at .loop .left)
+    Runs (at .loop .array) (c .before .before .before .put-line .last .1 .1 .1 .1 .1 .1 .0) (at .loop .held + 1) (at .loop .left)
 line c =
     let j = low c in
     let at = turn j in
-    line-runs (entry at .args .keys .now) _ (begins (at .before)) (turning at) (several (j .before)) (j .lowest .ensures .0)
+    line-runs _ (entry at .args .keys .now) _ (begins (at .before)) (turning at) (several (j .before)) (j .lowest .ensures .0)
     (j .lowest .ensures .1) (c .without-lowest .ensures) (c .without-lowest .ok) (c .before .before .before .put-line .ensures)
 
 add-run-turn : tie.Need-add-run-turn Inv-loop μ-loop
@@ -148,7 +151,7 @@ run-turn-requires : tie.Need-run-turn-requires Inv-loop μ-loop
 run-turn-requires c κs =
     let next = c .before .before in
     let s = line next in (
-      next .before .before .before .put-line .kept .1 .1 .1 .1 .1 .0 ∙ turning (turn (low next)) .size,
+      next .before .before .before .put-line .kept .1 .1 .1 .1 .1 .1 .0 ∙ turning (turn (low next)) .size,
       ((s .some, s .few), s .inside),
     )
 
@@ -162,7 +165,7 @@ loop-less c =
     let at = turn j in
     omega (
       arith,
-      ap length (split (entry at .args .keys .now) _ (begins (at .before)) (turning at) (several (j .before)) (j .lowest .ensures .0)
+      ap length (split _ (entry at .args .keys .now) _ (begins (at .before)) (turning at) (several (j .before)) (j .lowest .ensures .0)
           (j .lowest .ensures .1) (next .without-lowest .ensures) (next .without-lowest .ok)),
     )
 
@@ -172,7 +175,7 @@ loop-again c =
     let next = r .before .before .before in
     let j = low next in
     let at = turn j in
-    λ k g. turning-more (entry at .args .keys .now) _ g (at .loop .inv k g) (several (j .before)) (j .lowest .ensures .0)
+    λ k g. turning-more _ (entry at .args .keys .now) _ g (at .loop .inv k g) (several (j .before)) (j .lowest .ensures .0)
     (j .lowest .ensures .1) (next .without-lowest .ensures) (next .without-lowest .ok)
     (next .before .before .before .put-line .ensures)
     (record { left = r .run-turn .ensures .0; number = r .run-turn .ensures .1 })
@@ -215,18 +218,18 @@ abbrev left-loop : tie.After-put-last Inv-loop μ-loop → tie.Else1 Inv-loop μ
 left-loop c = c .before .before .before
 
 last : (c : tie.After-put-last Inv-loop μ-loop) → let at = left-loop c .before .before in
-    Runs (at .loop .array) (c .put-last .last .1 .1 .1 .1 .1 .1 .1 .1 .0) (c .put-last .result) (at .loop .left)
+    Runs (at .loop .array) (c .put-last .last .1 .1 .1 .1 .1 .1 .1 .1 .1 .0) (c .put-last .result) (at .loop .left)
 last c =
     let out = left-loop c in
     let at = out .before .before in
-    last-runs (entry at .args .keys .now) _ (begins (at .before)) (turning at) (few-left out) (entry at .pre .1 .0)
+    last-runs _ (entry at .args .keys .now) _ (begins (at .before)) (turning at) (few-left out) (entry at .pre .1 .0)
     (c .put-last .ensures .0) (c .put-last .ensures .1)
 
 run-turn-requires-2 : tie.Need-run-turn-requires-2 Inv-loop μ-loop
 run-turn-requires-2 c κs =
     let put = c .before .before .before .before in
     let s = last put in (
-      put .put-last .kept .1 .1 .1 .1 .1 .1 .1 .1 .0 ∙ turning (left-loop put .before .before) .size,
+      put .put-last .kept .1 .1 .1 .1 .1 .1 .1 .1 .1 .0 ∙ turning (left-loop put .before .before) .size,
       ((s .some, s .few), s .inside),
     )
 
@@ -234,29 +237,29 @@ run-turn-requires-2 c κs =
 abbrev closed : tie.After-run-turn2 Inv-loop μ-loop → tie.After-put-last Inv-loop μ-loop
 closed c = c .before .before .before .before .before
 
-sub-t53 : tie.Need-sub-t53 Inv-loop μ-loop
-sub-t53 c =
+sub-t56 : tie.Need-sub-t56 Inv-loop μ-loop
+sub-t56 c =
     let out = left-loop (closed (c .before .before .before .before)) in
     omega (arith, turning (out .before .before) .within)
 
-add-t54 : tie.Need-add-t54 Inv-loop μ-loop
-add-t54 c =
+add-t57 : tie.Need-add-t57 Inv-loop μ-loop
+add-t57 c =
     let r = c .before .before .before .before in
     let at = left-loop (closed r) .before .before in
     omega (arith, turning at .within, ran-few _ _ _ (r .run-turn2 .ensures .1), entry at .fits .allowance .fits)
 
-mul-t56 : tie.Need-mul-t56 Inv-loop μ-loop
-mul-t56 c = omega (arith, last (closed (c .before .before .before .before)) .few)
+mul-t59 : tie.Need-mul-t59 Inv-loop μ-loop
+mul-t59 c = omega (arith, last (closed (c .before .before .before .before)) .few)
 
-add-t57 : tie.Need-add-t57 Inv-loop μ-loop
-add-t57 c = omega (arith, last (closed (c .before .before .before .before)) .few)
+add-t60 : tie.Need-add-t60 Inv-loop μ-loop
+add-t60 c = omega (arith, last (closed (c .before .before .before .before)) .few)
 
 same-length : tie.Need-same-length Inv-loop μ-loop
 same-length c =
     let r = c .before .before .before .before in
     let put = closed r in
     let at = left-loop put .before .before in
-    r .run-turn2 .kept .1 .0 ∙ put .put-last .kept .1 .1 .1 .1 .1 .1 .1 .1 .0 ∙ turning at .size ∙ sym (entry at .pre .0 .1 .control)
+    r .run-turn2 .kept .1 .0 ∙ put .put-last .kept .1 .1 .1 .1 .1 .1 .1 .1 .1 .0 ∙ turning at .size ∙ sym (entry at .pre .0 .1 .control)
 
 same-length-2 : tie.Need-same-length-2 Inv-loop μ-loop
 same-length-2 c =
@@ -270,9 +273,10 @@ returns c =
     let put = closed r in
     let out = left-loop put in
     let at = out .before .before in
-    turned-makes (entry at .args .keys .now) _ (begins (at .before)) (turning at) (few-left out) (entry at .pre .1 .0)
+    turned-makes _ (entry at .args .keys .now) _ (begins (at .before)) (turning at) (few-left out) (entry at .pre .1 .0)
     (put .put-last .ensures .0) (put .put-last .ensures .1) (entry at .pre .1 .1)
     (record { left = r .run-turn2 .ensures .0; number = r .run-turn2 .ensures .1 })
+    (at .before .before .before .before .before .before .before .before .family .ensures)
     (at .before .before .before .before .before .before .root .ensures)
 
 pub run-batches-spec : {M : Type 1} → statement M
@@ -281,6 +285,7 @@ run-batches-spec =
     (tie.spec
     Inv-loop
     μ-loop
+    family-requires
     root-requires
     put-front-requires
     loop-holds
@@ -298,10 +303,10 @@ run-batches-spec =
     loop-again
     put-last-requires
     run-turn-requires-2
-    sub-t53
-    add-t54
-    mul-t56
+    sub-t56
     add-t57
+    mul-t59
+    add-t60
     same-length
     same-length-2
     returns)

@@ -11,17 +11,20 @@ use Rattle.memory_map.proofs.Laws.{page-node}
 use Rattle.counter.specs.Counter.{withMinor}
 use Rattle.counter.proofs.Laws.{length-withMinor}
 use Rattle.cache.specs.Cache.{current}
-use Rattle.calls.specs.Call.{buffers}
+use Rattle.calls.specs.Call.{Called, buffers}
 use Rattle.node.proofs.Laws.{current-length}
 use Rattle.line_store.specs.Stored.{storedLine}
 use Rattle.write.proofs.raise.Statement.{statement}
 use Rattle.write.proofs.raise.Tie as tie
 
+family-requires : tie.Need-family-requires
+family-requires c κs = search needs
+
 page-of-requires : tie.Need-page-of-requires
 page-of-requires c κs = search needs
 
 abbrev start : tie.After-page-of → tie.Start
-start c = c .before .before .before .before .before .before .before .before
+start c = c .before .before .before .before .before .before .before .before .before .before
 
 inside : (c : tie.After-page-of) → InMap (start c .args .h) (node 0 (c .page-of .result))
 inside c =
@@ -83,13 +86,15 @@ returns c =
     let new = call .before .before .before .before .before .before in
     let a = start (new .before .before .before .before) .args in
     call .store-line .ensures
-    ∙ ap (λ (b : List ℕ). storedLine (a .h) (a .keys .now) (a .line) (a .text .now) (a .major) (a .minor) b (a .allowance)
-    (buffers (a .array .now) (a .control .now) (a .cache .now))) (new-block new)
+    ∙ ap₂ {C = Called} (λ (f : ℕ) (b : List ℕ). storedLine (a .h) f (a .keys .now) (a .line) (a .text .now) (a .major) (a .minor) b
+    (a .allowance) (buffers (a .array .now) (a .control .now) (a .cache .now)))
+    (new .before .before .before .before .before .before .before .family .ensures) (new-block new)
 
 pub raise-spec : {M : Type 1} → statement M
 raise-spec =
     tie.close
     (tie.spec
+    family-requires
     page-of-requires
     current-requires
     place-of-requires
