@@ -292,7 +292,7 @@ static uint32_t refuse(uint8_t *numbers, uint32_t refusal)
     return answer(numbers, NV_REFUSED + refusal, 0, 0, 0);
 }
 
-// The checks with which every call but format and the list starts: a refusal or 0.
+// The checks with which read, write and recovery start: a refusal or 0.
 static uint32_t open_module(module *m, uint64_t keys_len, uint64_t control_len, uint64_t array_len, uint64_t cache_len)
 {
     if (keys_len != NV_KEYS_LENGTH)
@@ -366,43 +366,31 @@ static uint8_t *queue_place(const module *m, unsigned j)
     return m->control + QUEUE_AT + PLACE * j;
 }
 
-// Stages the cell of a block or node at place j, if the allowance lets; the next place.
-static unsigned stage_node(const module *m, uint64_t cell, const uint8_t *content, unsigned j, uint64_t allowance)
-{
-    uint8_t *at = queue_place(m, j);
-    if (j < allowance) {
-        put64(at, cell);
-        memcpy(at + 8, content, CONTENT);
-        memset(at + 8 + CONTENT, 0, 8);
-        ordered();
-    }
-    return j + 1;
-}
-
-// The same of what gives a slot another owner, 0 if none: the cell of its dirty former one, if there is one, then its shadow cell.
-static unsigned stage_slot(const module *m, unsigned slot, uint64_t owner, unsigned j, uint64_t allowance)
-{
-    const uint8_t *former = m->cache + SLOT * slot;
-    if (former[DIRTY_AT])
-        j = stage_node(m, m->map->node[level_of(slot)] + get64(former) - 1, former + CONTENT_AT, j, allowance);
-    uint8_t *at = queue_place(m, j);
-    if (j < allowance) {
-        put64(at, m->map->shadow + slot);
-        put64(at + 8, owner);
-        memset(at + 16, 0, CELL - 8);
-        ordered();
-    }
-    return j + 1;
-}
-
 // Stages the cells that loading takes, as far as the allowance lets; how many they are.
 static unsigned stage_path(const module *m, uint64_t page, const path *p, uint64_t allowance)
 {
     unsigned j = 0;
     for (int l = (int)m->depth; l >= 0; l--) {
+        if (!(p->loaded >> l & 1))
+            continue;
         uint64_t index = page >> 3 * l;
-        if (p->loaded >> l & 1)
-            j = stage_slot(m, slot_of((unsigned)l, index), index + 1, j, allowance);
+        uint8_t *at = queue_place(m, j);
+        if (p->slot[l][DIRTY_AT]) {
+            if (j < allowance) {
+                put64(at, m->map->node[l] + get64(p->slot[l]) - 1);
+                memcpy(at + 8, p->slot[l] + CONTENT_AT, CONTENT);
+                memset(at + 8 + CONTENT, 0, 8);
+                ordered();
+            }
+            at = queue_place(m, ++j);
+        }
+        if (j < allowance) {
+            put64(at, m->map->shadow + slot_of((unsigned)l, index));
+            put64(at + 8, index + 1);
+            memset(at + 16, 0, CELL - 8);
+            ordered();
+        }
+        j++;
     }
     return j;
 }
@@ -559,7 +547,14 @@ static void renew_slots(uint64_t page, const path *p, unsigned depth, const uint
 
 static unsigned stage_block(const module *m, uint64_t page, const uint8_t *block, unsigned j, uint64_t allowance)
 {
-    return stage_node(m, m->map->node[0] + page, block, j, allowance);
+    uint8_t *at = queue_place(m, j);
+    if (j < allowance) {
+        put64(at, m->map->node[0] + page);
+        memcpy(at + 8, block, CONTENT);
+        memset(at + 8 + CONTENT, 0, 8);
+        ordered();
+    }
+    return j + 1;
 }
 
 static unsigned stage_data(const module *m, uint64_t line, const uint8_t *block, uint32_t minor, const uint8_t *text,
@@ -689,44 +684,6 @@ uint32_t NAME(turn)(const uint8_t *keys, uint64_t keys_len, uint8_t *control, ui
         return answer(numbers, NV_CUT, stores, 0, 0);
     load_slots(page, &p, m.depth);
     renew_slots(page, &p, m.depth, turned, 0, tags);
-    return answer(numbers, NV_DONE, stores, 0, 0);
-}
-
-// ---- Parking ----
-
-// The batches of the filled slots, from 0 up, as far as the allowance lets. Whether all stores were made.
-static int park_slots(const module *m, uint64_t allowance, uint64_t *stores)
-{
-    for (unsigned slot = 0; slot < m->map->slots; slot++) {
-        if (get64(m->cache + SLOT * slot) == 0)
-            continue;
-        uint64_t room = allowance - *stores;
-        unsigned count = stage_slot(m, slot, 0, 0, room);
-        *stores += run_batch(m, count, get64(m->control + ROOT_AT), room);
-        if (room < stores_needed(count))
-            return 0;
-    }
-    return 1;
-}
-
-uint32_t NAME(park)(const uint8_t *keys, uint64_t keys_len, uint8_t *control, uint64_t control_len, uint8_t *array,
-                    uint64_t array_len, uint8_t *cache, uint64_t cache_len, uint64_t allowance, uint8_t *numbers,
-                    uint64_t numbers_len)
-{
-    if (numbers_len != NV_NUMBERS_LENGTH)
-        return NV_REFUSED + NV_BAD_BUFFER_LENGTH;
-    module m = { keys, control, array, cache, 0, 0, 0 };
-    uint32_t refusal = open_module(&m, keys_len, control_len, array_len, cache_len);
-    if (!refusal)
-        refusal = at_rest(&m);
-    if (!refusal && control[TURN_AT] != 0)
-        refusal = NV_OPEN_PAGE;
-    if (refusal)
-        return refuse(numbers, refusal);
-    uint64_t stores = 0;
-    if (!park_slots(&m, allowance, &stores))
-        return answer(numbers, NV_CUT, stores, 0, 0);
-    memset(cache, 0, cache_len);
     return answer(numbers, NV_DONE, stores, 0, 0);
 }
 

@@ -9,7 +9,6 @@
     __typeof__(nv_read) prefix##read; \
     __typeof__(nv_write) prefix##write; \
     __typeof__(nv_turn) prefix##turn; \
-    __typeof__(nv_park) prefix##park; \
     __typeof__(nv_recover) prefix##recover; \
     __typeof__(nv_dirty_pages) prefix##dirty_pages;
 

@@ -3,7 +3,6 @@
 //     recorder format FILE [FAMILY]          makes a module in FILE, which must not exist, with fresh keys
 //     recorder run FILE [RECORDS [WITNESS]]  boots, then records until it is killed or has made RECORDS
 //     recorder check FILE [WITNESS]          boots, and so checks every row, without a store to FILE
-//     recorder park FILE                     boots, then parks the module, for shipping; if it is killed in that, park again
 //     recorder try FILE SEED [FAMILY]        formats FILE as above, then loses power hundreds of times, at any store
 //
 // FAMILY is 0 for a module with a phase byte beside each line, and 1 for one of the older modules without; 0 if there is none.
@@ -15,7 +14,7 @@
 // Ends with 0 if all is well, 1 at a fault, 2 at a wrong command line, and 3 at a fault in a boot after power failed in a
 // turn: the commit of a turn must be stored whole (docs/FIRMWARE.md), and a kill that tears it is outside the promise.
 //
-// Firmware needs `boot`, `recorded`, `parked` and what they call; the files, the commands and the supply that fails are the host's.
+// Firmware needs `boot`, `recorded` and what they call; the files, the commands and the supply that fails are the host's.
 //
 //     cc -std=c99 -I dist examples/recorder.c dist/libnightvelvet.a -o recorder
 #define _POSIX_C_SOURCE 200809L
@@ -116,9 +115,9 @@ static void refused(const recorder *r, const char *call, nv_answer answer)
          answer.second);
 }
 
-enum { RECOVERY, READ, WRITE, TURN, RESUMED_TURN, PARKING, CALLS };
+enum { RECOVERY, READ, WRITE, TURN, RESUMED_TURN, CALLS };
 
-static const char *const call_names[CALLS] = { "recovery", "read", "write", "turn", "resumed turn", "parking" };
+static const char *const call_names[CALLS] = { "recovery", "read", "write", "turn", "resumed turn" };
 
 // The stores that power lasts for. Firmware gives UINT64_MAX to every call, and power fails by itself; `try` gives fewer.
 static uint64_t supply = UINT64_MAX;
@@ -246,32 +245,6 @@ static int recorded(recorder *r)
     return 1;
 }
 
-// ---- Parking ----
-
-// Parks the module before it is shipped; whether power lasted for it. Where power fails in it, nothing is lost: boot, and park
-// again. After a boot no page is open, which parking would be refused for.
-static int parked(recorder *r)
-{
-    return lasted(r, PARKING, nv_module_park(&r->module, supply));
-}
-
-// What the receiver of a parked module can see, tried on a copy: nothing is pending, and a recovery brings nothing forward and
-// leaves a cache of zeros.
-static void find_parked(const memory *kept)
-{
-    static const uint8_t zeros[NV_CACHE_LENGTH_1];
-    static memory copy;
-    uint8_t cache[NV_CACHE_LENGTH_1];
-    copy = *kept;
-    memset(cache, 0xa5, sizeof cache);
-    nv_module module = nv_module_of(DEPTH, copy.keys, copy.control, copy.array, cache);
-    nv_answer answer = nv_module_recover(&module, UINT64_MAX);
-    if (answer.code != NV_DONE)
-        refused(NULL, "recovery of a parked module", answer);
-    if (answer.stores != 0 || answer.sum != 0 || memcmp(cache, zeros, sizeof cache) != 0)
-        stop(NULL, "parking was answered as done, and the module is not parked");
-}
-
 // ---- Files ----
 
 static void stop_at(const char *path)
@@ -382,19 +355,9 @@ static void check(const char *path, const char *witness_path)
     printf("recorder: every row is right, the last record is %" PRIu64 "\n", r.last);
 }
 
-static void park(const char *path)
-{
-    static recorder r;
-    memory *kept = map_file(path, O_RDWR, sizeof *kept);
-    boot(&r, kept);
-    parked(&r);
-    find_parked(kept);
-    printf("recorder: parked, the last record is %" PRIu64 "\n", r.last);
-}
-
 // ---- A supply that fails ----
 
-enum { FAILURES = 400, PARKINGS = 16 }; // of so many calls one is a parking
+enum { FAILURES = 400 };
 
 static uint64_t state;
 
@@ -428,18 +391,7 @@ static void audit(const memory *kept, uint64_t *answered, unsigned writes_cut)
     *answered = r.last;
 }
 
-// Makes the next record, or now and then parks; whether power lasted for it.
-static int worked(recorder *r)
-{
-    if (below(PARKINGS) != 0)
-        return recorded(r);
-    if (!parked(r))
-        return 0;
-    find_parked(r->kept);
-    return 1;
-}
-
-// Boots and works until power fails. It fails between two stores, so nothing excuses a fault, and the mark is cleared.
+// Boots and records until power fails. It fails between two stores, so nothing excuses a fault, and the mark is cleared.
 static void lose_power(memory *kept, uint64_t *answered)
 {
     static recorder r;
@@ -448,7 +400,7 @@ static void lose_power(memory *kept, uint64_t *answered)
     supply = below(4) == 0 ? below(8) : below(below(2) == 0 ? 120 : 700);
     if (boot(&r, kept)) {
         compare(&r, *answered, 0);
-        while (worked(&r))
+        while (recorded(&r))
             *answered = r.last;
     }
     supply = UINT64_MAX;
@@ -471,9 +423,8 @@ static void try_supply(const char *path, uint64_t seed, uint64_t family)
            seen.committed, seen.lost);
     printf("recorder: %u turns of a worn row's page begun, %u times resumed\n", seen.done[TURN] + seen.cut[TURN],
            seen.done[RESUMED_TURN] + seen.cut[RESUMED_TURN]);
-    printf("recorder: %u times parked, between records\n", seen.done[PARKING]);
-    printf("recorder: power failed %u times in writes, %u in reads, %u in turns, %u in parkings, %u in recoveries\n",
-           seen.cut[WRITE], seen.cut[READ], seen.cut[TURN] + seen.cut[RESUMED_TURN], seen.cut[PARKING], seen.cut[RECOVERY]);
+    printf("recorder: power failed %u times in writes, %u in reads, %u in turns, %u in recoveries\n", seen.cut[WRITE],
+           seen.cut[READ], seen.cut[TURN] + seen.cut[RESUMED_TURN], seen.cut[RECOVERY]);
     printf("recorder: %u recoveries brought counters forward by %" PRIu64 " in all\n", seen.done[RECOVERY], seen.sum);
     printf("recorder: every row was right after each of %d power failures, the last record is %" PRIu64 "\n", FAILURES, answered);
 }
@@ -505,13 +456,10 @@ int main(int count, char **words)
         run(words[2], number, count > 4 ? words[4] : NULL);
     else if (strcmp(command, "check") == 0 && count <= 4)
         check(words[2], count > 3 ? words[3] : NULL);
-    else if (strcmp(command, "park") == 0 && count == 3)
-        park(words[2]);
     else if (strcmp(command, "try") == 0 && count > 3 && is_number(words[3], &number) && is_family(count, words, 4, &family))
         try_supply(words[2], number, family);
     else {
-        fputs("usage: recorder format FILE [FAMILY] | run FILE [RECORDS [WITNESS]] | check FILE [WITNESS] | park FILE"
-              " | try FILE SEED [FAMILY]\n",
+        fputs("usage: recorder format FILE [FAMILY] | run FILE [RECORDS [WITNESS]] | check FILE [WITNESS] | try FILE SEED [FAMILY]\n",
               stderr);
         return USAGE;
     }

@@ -13,9 +13,8 @@
 //   - THE COMMIT OF A TURN MUST BE STORED WHOLE: 26 bytes in two places of the control record. If power fails inside it,
 //     lines of the page may be lost, or the next recovery or the one after it is refused as 21, 29, 32 or 33, and with it
 //     the whole module. No other store needs this.
-//   - NOTHING MAY BE READ, WRITTEN, TURNED OR PARKED BEFORE A RECOVERY IS DONE, after power-up, a reset or NV_CUT. Not every
-//     such call is refused; a write can then cost the module, or put two texts under one pad. A parking can cost the module
-//     too, or with a cache of zeros be done and park nothing.
+//   - NOTHING MAY BE READ, WRITTEN OR TURNED BEFORE A RECOVERY IS DONE, after power-up, a reset or NV_CUT. Not every such
+//     call is refused; a write can then cost the module, or put two texts under one pad.
 //   - WHERE THE RECOVERY AFTER A POWER FAILURE IS REFUSED as 21, 27 to 29 or 32 to 34, no text can be read through the
 //     library any more. Damage, wrong tag keys or a recovery left out lead there; power failures do not, but for one inside
 //     the commit of a turn, and for a 34 by chance: without a phase byte (NV_FAMILY_TAG) the tag of a line may happen to be
@@ -35,9 +34,8 @@
 
 // The library has the change requests 1/14 to NV_VERSION/14:
 // 1 dirty pages are listed in rising number; 2 a page can be turned; 3 blank lines read as FF hex; 4 nothing is divided;
-// 5 a bad phase (28) and a bad counter (32) are refused apart; 6 modules without a phase byte (NV_FAMILY_TAG); 7 a module can be
-// parked.
-#define NV_VERSION 7
+// 5 a bad phase (28) and a bad counter (32) are refused apart; 6 modules without a phase byte (NV_FAMILY_TAG).
+#define NV_VERSION 6
 
 #ifdef __cplusplus
 extern "C" {
@@ -109,7 +107,7 @@ enum {
     NV_BAD_SHADOW = 27,         // recovery: the shadow lists what no cache holds; place: slot
     NV_BAD_PHASE = 28,          // recovery, with a phase byte: a line's phase is over 3; place: line
     NV_BAD_ROOT = 29,           // recovery: the rebuilt tree has not the module's root
-    NV_OPEN_PAGE = 30,          // the line's page is open: finish its turn first; of a turn: another page is; of parking: any is
+    NV_OPEN_PAGE = 30,          // the line's page is open: finish its turn first; of a turn: another page is open
     NV_WORN_PAGE = 31,          // turn: the page was turned 2^64 - 1 times
     NV_BAD_COUNTER = 32,        // recovery, with a phase byte: it would bring a line's stored counter past 127; place: line
     NV_NO_COUNTER = 33,         // recovery, without a phase byte: a line's data cell fits no counter; place: line
@@ -139,15 +137,6 @@ uint32_t nv_write(const uint8_t *keys, uint64_t keys_len, uint8_t *control, uint
 uint32_t nv_turn(const uint8_t *keys, uint64_t keys_len, uint8_t *control, uint64_t control_len, uint8_t *array,
                  uint64_t array_len, uint8_t *cache, uint64_t cache_len, uint64_t page, uint64_t allowance,
                  uint8_t *numbers, uint64_t numbers_len);
-
-// Parks the module before it is shipped, with at most `allowance` stores: what the cache alone holds is brought to the array,
-// the shadow lists nothing any more, and the cache is all zero. The array then depends on keys, depth, family, texts, counters
-// and turns alone: two parked modules in which these are equal have equal arrays. Checks no tag and does not use the keys, which
-// must have their length. Makes up to 63 stores. Refused as NV_OPEN_PAGE while any page is open. A cut or a power failure in it
-// loses nothing: recover, then park again. Any call may follow; a read, write or turn fills the cache, so park again after it.
-uint32_t nv_park(const uint8_t *keys, uint64_t keys_len, uint8_t *control, uint64_t control_len, uint8_t *array,
-                 uint64_t array_len, uint8_t *cache, uint64_t cache_len, uint64_t allowance, uint8_t *numbers,
-                 uint64_t numbers_len);
 
 // Brings the module back after a power failure, whatever the cache then holds, with at most `allowance` stores.
 uint32_t nv_recover(const uint8_t *keys, uint64_t keys_len, uint8_t *control, uint64_t control_len, uint8_t *array,

@@ -116,14 +116,6 @@ static inline nv_answer nv_module_turn(const nv_module *m, uint64_t page, uint64
     return nv_answer_of(code, numbers, 0);
 }
 
-static inline nv_answer nv_module_park(const nv_module *m, uint64_t allowance)
-{
-    uint8_t numbers[NV_NUMBERS_LENGTH];
-    uint32_t code = nv_park(m->keys, NV_KEYS_LENGTH, m->control, NV_CONTROL_LENGTH, m->array, m->array_len, m->cache,
-                            m->cache_len, allowance, numbers, sizeof numbers);
-    return nv_answer_of(code, numbers, 0);
-}
-
 static inline nv_answer nv_module_recover(const nv_module *m, uint64_t allowance)
 {
     uint8_t numbers[NV_NUMBERS_LENGTH];

@@ -69,9 +69,6 @@ class Book:
         after.turn(page, stores, whole)
         return after
 
-    def parked_array(self, keys, depth, family):
-        return model.parked_array(keys, depth, family, self.counts, self.texts, self.turns)
-
 
 def commits(stores, whole):
     """Whether a write cut after so many stores is committed, where with stores enough it makes `whole`."""
@@ -79,10 +76,20 @@ def commits(stores, whole):
     return stores > batch
 
 
+def fresh_blocks(book, depth):
+    pages = {page: [0] * 64 for page in book.turns}
+    for line, count in book.counts.items():
+        pages.setdefault(line // 64, [0] * 64)[line % 64] = count
+    blocks = [bytes(64)] * model.pages(depth)
+    for page, minors in pages.items():
+        blocks[page] = model.fresh_block(book.turns.get(page, 0), tuple(minors))
+    return blocks
+
+
 def tree_faults(book, keys, depth, module, told):
     """The clauses on counters, tree, root and sum that fail."""
     found = model.slots_of_cache(module.cache)
-    blocks = model.fresh_blocks(depth, book.counts, book.turns)
+    blocks = fresh_blocks(book, depth)
     behind = 0
     total = 0
     for page, block in enumerate(blocks):

@@ -14,7 +14,7 @@
 #include <sys/wait.h>
 #include <unistd.h>
 
-enum { STORES = 63, LINES_READ = 800, LONG = 1000000 };
+enum { STORES = 31, LINES_READ = 800, LONG = 1000000 };
 enum { ROOT_AT = 7, COUNT_AT = 15, NEW_ROOT_AT = 16, QUEUE_AT = 24, PLACE = 80, CELL = 72, SLOT = 73 };
 enum { COMMIT = 1 + 8 + 17 }; // bytes of a turn's commit: count, new root, section
 
@@ -27,7 +27,6 @@ typedef struct {
     unsigned stores, batches;    // how many the call makes
     uint64_t line, page;         // the line it reads or writes; the page it turns, or that is open
     int writes, turns, open;     // whether its commits commit a write or a turn; whether a page is open before it
-    int parks;                   // whether each of its commits empties a slot
 } listed;
 
 typedef struct {
@@ -145,7 +144,6 @@ static void list_stores(listed *l, const module *start, enum scenario s)
     l->batches = 0;
     l->writes = scenario_calls[s] == WRITE;
     l->turns = scenario_calls[s] == TURN;
-    l->parks = scenario_calls[s] == PARK;
     l->line = scenario_line(s, start->depth);
     l->page = scenario_page(s, start->depth);
     l->open = start->control[NV_TURN_AT];
@@ -218,15 +216,6 @@ static const char *turn_fault(const listed *l, int open)
     return NULL;
 }
 
-// After a parking that was cut, recovery finds listed just the slots whose batches were not committed: the last ones.
-static const char *slots_fault(const listed *l, unsigned committed)
-{
-    unsigned filled = 0;
-    for (size_t at = 0; at < trial.cache_len; at += SLOT)
-        filled += nv_number(trial.cache, at) != 0;
-    return l->parks && filled != l->batches - committed ? "after recovery other slots are filled" : NULL;
-}
-
 static const char *recovery_fault(const book *b, const listed *l, unsigned committed, long turn)
 {
     int finished = l->turns && committed == l->batches, open = !finished && (l->open || (l->turns && committed > 0));
@@ -236,9 +225,7 @@ static const char *recovery_fault(const book *b, const listed *l, unsigned commi
     if (call_recover(&trial, UNLIMITED) != NV_DONE)
         return "recovery from raw memory is not done";
     uint64_t step = trial.lines / LINES_READ + 1;
-    const char *fault = slots_fault(l, committed);
-    if (!fault)
-        fault = turn_fault(l, open);
+    const char *fault = turn_fault(l, open);
     for (uint64_t place = 0; place < 64 && !fault && l->turns; place++)
         fault = line_fault(b, l, committed, finished || open, 64 * l->page + place);
     if (!fault)
@@ -456,8 +443,6 @@ static int one(enum scenario s)
     list_stores(&l, &live, s);
     need(s != FULL_WRITE || l.commit[2 * live.depth + 2]);
     need(s != EVICTING_TURN || (l.commit[2 * live.depth + 2] && l.batches == 3));
-    need(s != DIRTY_PARKING || (l.batches == 2 * live.depth + 3 && l.stores == 7 * l.batches));
-    need(s != CLEAN_PARKING || (l.batches == 2 * live.depth + 3 && l.stores == 5 * l.batches));
     step_through(s, &l, &see, recover_each, pass_by);
     note_commits(&l, see.longest);
     free_listed(&l);
@@ -644,11 +629,9 @@ static int torn_commits(void)
 static void step_all(int *passed, int *failed)
 {
     static const enum scenario tried[] = { FIRST_READ, EVICTING_READ, CACHED_WRITE, STOP_LOSS_WRITE, EVICTING_WRITE,
-                                           FULL_WRITE, SMALL_TURN, EVICTING_TURN, RESUMED_TURN, SINGLE_TURN, DIRTY_PARKING,
-                                           CLEAN_PARKING, MIXED_PARKING, EMPTY_PARKING, IDLE_RECOVERY, SMALL_RECOVERY,
-                                           FULL_RECOVERY, TURN_RECOVERY, PARKING_RECOVERY };
-    static const enum scenario few[] = { EVICTING_READ, FULL_WRITE, EVICTING_TURN, RESUMED_TURN, MIXED_PARKING, FULL_RECOVERY,
-                                         TURN_RECOVERY };
+                                           FULL_WRITE, SMALL_TURN, EVICTING_TURN, RESUMED_TURN, SINGLE_TURN, IDLE_RECOVERY,
+                                           SMALL_RECOVERY, FULL_RECOVERY, TURN_RECOVERY };
+    static const enum scenario few[] = { EVICTING_READ, FULL_WRITE, EVICTING_TURN, RESUMED_TURN, FULL_RECOVERY, TURN_RECOVERY };
     int phases = live.family == NV_FAMILY_PHASE, all = phases || live.depth == 1;
     size_t count = all ? sizeof tried / sizeof *tried : sizeof few / sizeof *few;
     for (size_t i = 0; i < count; i++)
@@ -656,7 +639,6 @@ static void step_all(int *passed, int *failed)
     if (live.depth == 1) {
         again(EVICTING_WRITE, phases ? 1 : 16) ? ++*failed : ++*passed;
         again(SMALL_TURN, phases ? 3 : 20) ? ++*failed : ++*passed;
-        again(MIXED_PARKING, phases ? 8 : 40) ? ++*failed : ++*passed;
     }
     torn_commits() ? ++*failed : ++*passed;
 }

@@ -16,7 +16,6 @@ SEQUENCES = {
     "read": ("keys", "control", "array", "cache", "line", "out", "allowance", "numbers"),
     "write": ("keys", "control", "array", "cache", "line", "text", "allowance", "numbers"),
     "turn": ("keys", "control", "array", "cache", "page", "allowance", "numbers"),
-    "park": ("keys", "control", "array", "cache", "allowance", "numbers"),
     "recover": ("keys", "control", "array", "cache", "allowance", "numbers"),
     "dirty_pages": ("control", "cache", "list", "numbers"),
 }
@@ -187,9 +186,6 @@ class Session:
     def turn(self, page, allowance=model.UNLIMITED):
         return self.make("turn", page=page, allowance=allowance)
 
-    def park(self, allowance=model.UNLIMITED):
-        return self.make("park", allowance=allowance)
-
     def recover(self, allowance=model.UNLIMITED):
         return self.make("recover", allowance=allowance)
 
@@ -216,11 +212,6 @@ def by_model_turn(keys, control, array, cache, page, allowance, numbers):
     return answer, (keys, module.control, module.array, module.cache)
 
 
-def by_model_park(keys, control, array, cache, allowance, numbers):
-    answer, module = model.park_call(keys, allowance, model.Module(array, control, cache))
-    return answer, (keys, module.control, module.array, module.cache)
-
-
 def by_model_recover(keys, control, array, cache, allowance, numbers):
     answer, module = model.recover_call(keys, allowance, model.Module(array, control, cache))
     return answer, (keys, module.control, module.array, module.cache)
@@ -232,7 +223,7 @@ def by_model_dirty_pages(control, cache, listed, numbers):
 
 
 BY_MODEL = {"format": by_model_format, "read": by_model_read, "write": by_model_write, "turn": by_model_turn,
-            "park": by_model_park, "recover": by_model_recover, "dirty_pages": by_model_dirty_pages}
+            "recover": by_model_recover, "dirty_pages": by_model_dirty_pages}
 
 
 def by_model(name, arguments):

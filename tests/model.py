@@ -489,8 +489,7 @@ def open_page(control):
 
 
 def opening_refusal(keys, module):
-    """The checks with which every call but format and the list starts, or
-    None."""
+    """The checks with which read, write and recovery start, or None."""
     if len(keys) != KEYS_LENGTH:
         return refused(2)
     if len(module.control) != CONTROL_LENGTH:
@@ -533,19 +532,6 @@ def turn_refusal(keys, page, module):
     if refusal is not None:
         return refusal
     if open_page(module.control) not in (None, page):
-        return refused(30)
-    return None
-
-
-def park_refusal(keys, module):
-    """All checks of parking."""
-    refusal = opening_refusal(keys, module)
-    if refusal is not None:
-        return refusal
-    refusal = state_refusal(module)
-    if refusal is not None:
-        return refusal
-    if open_page(module.control) is not None:
         return refused(30)
     return None
 
@@ -785,65 +771,6 @@ def open_section(page, places):
     return b"\x01" + number8(page) + number8(mask)
 
 
-def park_call(keys, allowance, module):
-    refusal = park_refusal(keys, module)
-    if refusal is not None:
-        return refusal, module
-    stores = park_stores(module)
-    ended, module = make_stores(stores, allowance, module,
-                                bytes(len(module.cache)))
-    if ended is not None:
-        return ended, module
-    return done(len(stores)), module
-
-
-def park_batches(module):
-    """(slot, batch) of each filled slot from 0 up: its cell if it is dirty,
-    then its emptied shadow cell."""
-    h = depth_of(module.control)
-    for number, slot in enumerate(slots_of_cache(module.cache)):
-        if slot.owner == 0:
-            continue
-        batch = [(shadow_cell(h, number), bytes(CELL))]
-        if slot.dirty:
-            cell = node_cell(h, level_of_slot(number), slot.owner - 1)
-            batch.insert(0, (cell, slot.content + bytes(SIDE)))
-        yield number, batch
-
-
-def park_stores(module):
-    stores = []
-    for _, batch in park_batches(module):
-        stores += stores_of_batch(batch, root_of(module.control))
-    return stores
-
-
-def owners_left(module, stores):
-    """The owners of the slots, without those whose batches are committed by
-    so many stores of a parking."""
-    owners = [slot.owner for slot in slots_of_cache(module.cache)]
-    numbers, batches = zip(*park_batches(module)) if any(owners) else ((), ())
-    committed = batches_committed([len(batch) for batch in batches], stores)
-    for number in numbers[:committed]:
-        owners[number] = 0
-    return owners
-
-
-def parked_array(keys, h, family, counts, texts, turns):
-    """The array of a parked module, from the counts and texts of its lines
-    and the finished turns of its pages alone."""
-    array = bytearray(array_length(h))
-    tree = tree_over(keys, h, fresh_blocks(h, counts, turns))
-    for level, contents in enumerate(tree):
-        for index, content in enumerate(contents):
-            offset = CELL * node_cell(h, level, index)
-            array[offset:offset + CONTENT] = content
-    for line, text in texts.items():
-        array[CELL * line:CELL * (line + 1)] = data_cell(
-            keys, family, text, line, turns.get(line // 64, 0), counts[line])
-    return bytes(array)
-
-
 def recover_call(keys, allowance, module):
     refusal = opening_refusal(keys, module)
     if refusal is not None:
@@ -1067,8 +994,8 @@ class History:
     """
 
     # How many parts follow each event's name.
-    SHAPES = {"read": 4, "write": 4, "turn": 3, "park": 2, "recover": 2,
-              "list": 1, "format": 3, "power_cut": 1}
+    SHAPES = {"read": 4, "write": 4, "turn": 3, "recover": 2, "list": 1,
+              "format": 3, "power_cut": 1}
 
     def __init__(self, keys, depth, family=PHASE_FAMILY):
         allow(depth in (1, 2, 3), "depth")
@@ -1082,7 +1009,6 @@ class History:
         self.turns = {}  # of each page, those that are finished
         self.open = None  # the page whose turn is not finished
         self.left = []  # its places still to turn
-        self.owners = None  # of the shadow after a parking, while it says
         self.answers = []
         self.after_cut = False
 
@@ -1117,10 +1043,6 @@ class History:
             self.note_write(answer, *rest)
         if kind == "turn" and answer.kind != "refused":
             self.note_turn(answer, *rest)
-        if kind in ("read", "write", "turn") and answer.kind != "refused":
-            self.owners = None
-        if kind == "park" and answer.kind != "refused":
-            self.note_park(answer, module)
         self.module = module
         self.answers.append(answer)
         if answer.kind == "cut":
@@ -1157,10 +1079,6 @@ class History:
     def run_turn(self, keys, page, allowance):
         allow(is_number64(page) and is_number64(allowance), "number")
         return turn_call(keys, page, allowance, self.module) + (None,)
-
-    def run_park(self, keys, allowance):
-        allow(is_number64(allowance), "number")
-        return park_call(keys, allowance, self.module) + (None,)
 
     def run_recover(self, keys, allowance):
         allow(is_number64(allowance), "number")
@@ -1204,16 +1122,6 @@ class History:
             if line in self.counts:
                 self.counts[line] = 1
 
-    def note_park(self, answer, module):
-        """The book stays. A parked module's array is the book's, and its
-        cache is zero."""
-        self.owners = owners_left(self.module, answer.stores)
-        if answer.kind == "done":
-            claim(module.array == parked_array(
-                self.keys, self.depth, family_of(module.control), self.counts,
-                self.texts, self.turns), "array of a parked module")
-            claim(not any(module.cache), "cache of a parked module")
-
     def lines_to_read(self):
         """Every written line and some that may be unwritten."""
         last = lines(self.depth) - 1
@@ -1241,9 +1149,6 @@ class History:
             blocks.append(fresh_block(self.turns.get(page, 0), counts))
         claim(counter_sum == sum(self.counts.values()), "sum of counters")
         claim(told_sum == behind, "told sum")
-        if self.owners is not None:
-            claim(shadow_owners(h, module.array) == self.owners
-                  == [slot.owner for slot in found], "listed after parking")
         tree = tree_over(keys, h, blocks)
         for level, contents in enumerate(tree):
             for index, content in enumerate(contents):
@@ -1282,18 +1187,6 @@ class History:
 @lru_cache(maxsize=1 << 14)
 def fresh_block(turns, counts):
     return counter_block(turns, counts)
-
-
-def fresh_blocks(h, counts, turns):
-    """The counter blocks of all pages, from the counts of the lines and the
-    finished turns of the pages."""
-    minors = {page: [0] * 64 for page in turns}
-    for line, count in counts.items():
-        minors.setdefault(line // 64, [0] * 64)[line % 64] = count
-    blocks = [bytes(CONTENT)] * pages(h)
-    for page, row in minors.items():
-        blocks[page] = fresh_block(turns.get(page, 0), tuple(row))
-    return blocks
 
 
 def turn_batches(lines_left, whole):

@@ -15,13 +15,11 @@ typedef struct {
     __typeof__(nv_read) *read;
     __typeof__(nv_write) *write;
     __typeof__(nv_turn) *turn;
-    __typeof__(nv_park) *park;
     __typeof__(nv_recover) *recover;
     __typeof__(nv_dirty_pages) *dirty_pages;
 } calls;
 
-#define CALLS_OF(prefix) \
-    { prefix##format, prefix##read, prefix##write, prefix##turn, prefix##park, prefix##recover, prefix##dirty_pages }
+#define CALLS_OF(prefix) { prefix##format, prefix##read, prefix##write, prefix##turn, prefix##recover, prefix##dirty_pages }
 
 typedef struct {
     const calls *by;
@@ -100,12 +98,6 @@ static inline uint32_t call_turn(const module *m, uint64_t page, uint64_t allowa
                        allowance, m->numbers, NV_NUMBERS_LENGTH);
 }
 
-static inline uint32_t call_park(const module *m, uint64_t allowance)
-{
-    return m->by->park(keys, sizeof keys, m->control, NV_CONTROL_LENGTH, m->array, m->array_len, m->cache, m->cache_len, allowance,
-                       m->numbers, NV_NUMBERS_LENGTH);
-}
-
 static inline uint32_t call_recover(const module *m, uint64_t allowance)
 {
     return m->by->recover(keys, sizeof keys, m->control, NV_CONTROL_LENGTH, m->array, m->array_len, m->cache, m->cache_len,
@@ -122,30 +114,25 @@ static inline uint32_t call_dirty_pages(const module *m)
 
 enum scenario {
     CACHED_READ, BLANK_READ, FIRST_READ, EVICTING_READ, CACHED_WRITE, STOP_LOSS_WRITE, EVICTING_WRITE, FULL_WRITE,
-    SMALL_TURN, FULL_TURN, DIRTY_PARKING, CLEAN_PARKING, EMPTY_PARKING, IDLE_RECOVERY, SMALL_RECOVERY, FULL_RECOVERY, FORMAT,
-    DIRTY_PAGES, BENCH_ROWS,
-    EVICTING_TURN = BENCH_ROWS, RESUMED_TURN, SINGLE_TURN, MIXED_PARKING, TURN_RECOVERY, PARKING_RECOVERY, SCENARIOS,
+    SMALL_TURN, FULL_TURN, IDLE_RECOVERY, SMALL_RECOVERY, FULL_RECOVERY, FORMAT, DIRTY_PAGES, BENCH_ROWS,
+    EVICTING_TURN = BENCH_ROWS, RESUMED_TURN, SINGLE_TURN, TURN_RECOVERY, SCENARIOS,
 };
 
 static const char *const scenario_names[SCENARIOS] = {
     "read of a cached line", "blank read", "blank read, empty cache", "read with eviction", "write to a cached line",
     "stop-loss write", "write with eviction", "write, full batch", "turn of two lines", "turn of a full page",
-    "parking, all slots dirty", "parking, all slots clean", "parking, empty cache", "recovery, full shadow",
-    "recovery, one pending", "recovery, full batch", "format", "list of dirty pages",
-    "turn with eviction", "turn resumed", "turn of one line", "parking, clean and dirty", "recovery, open page",
-    "recovery in a parking",
+    "recovery, full shadow", "recovery, one pending", "recovery, full batch", "format", "list of dirty pages",
+    "turn with eviction", "turn resumed", "turn of one line", "recovery, open page",
 };
 
-enum call { READ, WRITE, TURN, PARK, RECOVER, LIST, FORMATS, CALL_KINDS };
+enum call { READ, WRITE, TURN, RECOVER, LIST, FORMATS, CALL_KINDS };
 
-static const char *const call_names[CALL_KINDS] = {
-    "nv_read", "nv_write", "nv_turn", "nv_park", "nv_recover", "nv_dirty_pages", "nv_format",
-};
+static const char *const call_names[CALL_KINDS] = { "nv_read", "nv_write", "nv_turn", "nv_recover", "nv_dirty_pages", "nv_format" };
 
 // The call of each scenario.
 static const enum call scenario_calls[SCENARIOS] = {
-    READ, READ, READ, READ, WRITE, WRITE, WRITE, WRITE, TURN, TURN, PARK, PARK, PARK, RECOVER, RECOVER, RECOVER, FORMATS, LIST,
-    TURN, TURN, TURN, PARK, RECOVER, RECOVER,
+    READ, READ, READ, READ, WRITE, WRITE, WRITE, WRITE, TURN, TURN, RECOVER, RECOVER, RECOVER, FORMATS, LIST,
+    TURN, TURN, TURN, RECOVER,
 };
 
 enum { NEAR = 5, FAMILIES = 2 };
@@ -173,31 +160,15 @@ static inline void put_lines(const module *m, uint64_t line, int times)
     }
 }
 
-// Every slot that can be filled is: dirty by writes, or clean by reads.
-static inline void fill_slots(const module *m, int dirty)
+// Every slot that can be filled is, and dirty.
+static inline void fill_slots(const module *m)
 {
-    static const uint64_t pages[] = { 0, 1, 2, 3, 8 + 1, 64 + 8 + 2 };
-    for (unsigned i = 0; i < 3 + m->depth; i++)
-        if (dirty)
-            put_lines(m, 64 * pages[i], i < 4 ? 1 : (int)i - 2);
-        else
-            need(call_read(m, 64 * pages[i], UNLIMITED) <= NV_BLANK);
-}
-
-// The cache that a module is parked with: of each slot its node, dirty, clean, or most clean and those of one path dirty. For a
-// recovery power fails in the parking, after the commit of its second batch.
-static inline void prepare_parking(const module *m, enum scenario s)
-{
-    if (s != EMPTY_PARKING)
-        fill_slots(m, 1);
-    if (s == CLEAN_PARKING || s == MIXED_PARKING) {
-        need(call_park(m, UNLIMITED) == NV_DONE);
-        fill_slots(m, 0);
-    }
-    if (s == MIXED_PARKING)
-        put_lines(m, 64, 1);
-    if (s == PARKING_RECOVERY)
-        need(call_park(m, 7 + 3) == NV_CUT && m->control[15] == 2);
+    for (uint64_t page = 0; page < 4; page++)
+        put_lines(m, 64 * page, 1);
+    if (m->depth > 1)
+        put_lines(m, 64 * (8 + 1), 2);
+    if (m->depth > 2)
+        put_lines(m, 64 * (64 + 8 + 2), 3);
 }
 
 // The line that a scenario's call reads or writes.
@@ -248,11 +219,9 @@ static inline void prepare(const module *m, enum scenario s)
         put_lines(m, NEAR, 1);
     }
     if (s == IDLE_RECOVERY)
-        fill_slots(m, 1);
+        fill_slots(m);
     if (scenario_calls[s] == TURN || s == TURN_RECOVERY)
         prepare_turn(m, s);
-    if (scenario_calls[s] == PARK || s == PARKING_RECOVERY)
-        prepare_parking(m, s);
     memset(m->text, 0xe7, NV_TEXT_LENGTH);
     if (s == SMALL_RECOVERY) // cut after the commit of a batch of one cell
         need(call_write(m, NEAR, 2) == NV_CUT && m->control[15] == 1);
@@ -270,8 +239,6 @@ static inline uint32_t run_scenario(const module *m, enum scenario s, uint64_t a
         return call_write(m, line, allowance);
     case TURN:
         return call_turn(m, scenario_page(s, m->depth), allowance);
-    case PARK:
-        return call_park(m, allowance);
     case RECOVER:
         return call_recover(m, allowance);
     case FORMATS:

@@ -6,10 +6,10 @@
 
 #define UNLIMITED UINT64_MAX
 
-enum { FORMAT, READ, WRITE, TURN, PARK, RECOVER, DIRTY_PAGES, KINDS };
+enum { FORMAT, READ, WRITE, TURN, RECOVER, DIRTY_PAGES, KINDS };
 enum { CELL = 72, SLOT = 73, ROOT_AT = 7, COUNT_AT = 15, SIDE_AT = 64 };
 
-static const char *const kind_names[KINDS] = { "format", "read", "write", "turn", "park", "recover", "dirty_pages" };
+static const char *const kind_names[KINDS] = { "format", "read", "write", "turn", "recover", "dirty_pages" };
 static const uint64_t lines_of[4] = { 0, 512, 4096, 32768 };
 static const uint64_t array_lens[4] = { 0, 37944, 300744, 2402136 };
 static const uint64_t cache_lens[4] = { 0, 438, 584, 730 };
@@ -42,8 +42,6 @@ static uint32_t make_plain(buffers *b, int kind, uint64_t depth, uint64_t number
         return nv_write(b->keys, 48, b->control, 681, b->array, array, b->cache, cache, number, b->text, 64, allowance, numbers, 24);
     case TURN:
         return nv_turn(b->keys, 48, b->control, 681, b->array, array, b->cache, cache, number, allowance, numbers, 24);
-    case PARK:
-        return nv_park(b->keys, 48, b->control, 681, b->array, array, b->cache, cache, allowance, numbers, 24);
     case RECOVER:
         return nv_recover(b->keys, 48, b->control, 681, b->array, array, b->cache, cache, allowance, numbers, 24);
     default:
@@ -63,8 +61,6 @@ static nv_answer make_form(buffers *b, int kind, uint64_t depth, uint64_t number
         return nv_module_write(&m, number, b->text, allowance);
     case TURN:
         return nv_module_turn(&m, number, allowance);
-    case PARK:
-        return nv_module_park(&m, allowance);
     case RECOVER:
         return nv_module_recover(&m, allowance);
     default:
@@ -125,8 +121,6 @@ static void without_refusals(uint64_t depth, uint64_t family)
     compare(WRITE, depth, 0, 3, NV_CUT, 0, 0);
     compare(TURN, depth, 0, UNLIMITED, NV_DONE, 0, 0);
     compare(TURN, depth, 0, 11, NV_CUT, 0, 0);
-    compare(PARK, depth, 0, UNLIMITED, NV_DONE, 0, 0);
-    compare(PARK, depth, 0, 8, NV_CUT, 0, 0);
     compare(DIRTY_PAGES, depth, 0, 0, NV_DONE, 0, 0);
     check(number_in(plain.list) == 0 && number_in(plain.list + 8) == UNLIMITED, "the list", depth);
     compare(RECOVER, depth, 0, 0, NV_DONE, 0, 0);
@@ -156,7 +150,6 @@ static void refusals(uint64_t depth, uint64_t family)
     start.array[CELL + SIDE_AT] = 4;
     build(WRITE, depth, 0, 4, NV_CUT);
     compare(READ, depth, 0, UNLIMITED, NV_REFUSED + NV_PENDING, 0, 0);
-    compare(PARK, depth, 0, UNLIMITED, NV_REFUSED + NV_PENDING, 0, 0);
     compare(RECOVER, depth, 0, UNLIMITED, hurt, 1, 0);
     check(make_form(&start, RECOVER, depth, 0, UNLIMITED).stores == 4, "stores of a refused recovery", depth);
     start.cache[SLOT + 8] = 2;
@@ -181,7 +174,6 @@ static void open_pages(uint64_t depth, uint64_t family)
     check(nv_module_is_open(&m) == 1 && nv_module_open_page(&m) == 5, "page 5 is open", depth);
     compare(READ, depth, 64 * 5, UNLIMITED, NV_REFUSED + NV_OPEN_PAGE, 0, 0);
     compare(TURN, depth, 0, UNLIMITED, NV_REFUSED + NV_OPEN_PAGE, 0, 0);
-    compare(PARK, depth, 0, UNLIMITED, NV_REFUSED + NV_OPEN_PAGE, 0, 0);
     compare(TURN, depth, nv_module_open_page(&m), UNLIMITED, NV_DONE, 0, 0);
 }
 

@@ -78,8 +78,6 @@ static uint32_t make(const calls *by, const job *j, const slice *s)
         return by->write(SLICE(KEYS), SLICE(CONTROL), SLICE(ARRAY), SLICE(CACHE), j->line, SLICE(BUFFER), j->allowance, SLICE(NUMBERS));
     case TURN:
         return by->turn(SLICE(KEYS), SLICE(CONTROL), SLICE(ARRAY), SLICE(CACHE), j->line / 64, j->allowance, SLICE(NUMBERS));
-    case PARK:
-        return by->park(SLICE(KEYS), SLICE(CONTROL), SLICE(ARRAY), SLICE(CACHE), j->allowance, SLICE(NUMBERS));
     case RECOVER:
         return by->recover(SLICE(KEYS), SLICE(CONTROL), SLICE(ARRAY), SLICE(CACHE), j->allowance, SLICE(NUMBERS));
     case LIST:
@@ -93,8 +91,10 @@ static uint32_t make(const calls *by, const job *j, const slice *s)
 
 static job draw_job(const module *m)
 {
-    static const int kinds[] = { READ, READ, READ, WRITE, WRITE, WRITE, WRITE, TURN, TURN, PARK, RECOVER, RECOVER, LIST };
-    job j = { .call = kinds[draw(13)], .place = (int)draw(PLACES), .depth = draw(4) ? m->depth : draw(6),
+    static const size_t lists[] = { [READ] = NV_TEXT_LENGTH, [WRITE] = NV_TEXT_LENGTH, [TURN] = NV_TEXT_LENGTH,
+                                    [RECOVER] = NV_TEXT_LENGTH, [LIST] = NV_LIST_LENGTH, [FORMATS] = NV_TEXT_LENGTH };
+    static const int kinds[] = { READ, READ, READ, WRITE, WRITE, WRITE, WRITE, TURN, TURN, RECOVER, RECOVER, LIST };
+    job j = { .call = kinds[draw(12)], .place = (int)draw(PLACES), .depth = draw(4) ? m->depth : draw(6),
               .family = draw(4) ? m->family : draw(4), .line = draw(m->lines) };
     if (draw(m->depth == 3 ? 300 : 100) == 0)
         j.call = FORMATS;
@@ -104,9 +104,8 @@ static job draw_job(const module *m)
         j.line = draw(2) ? m->lines : UINT64_MAX;
     if (j.call == TURN && m->control[NV_TURN_AT] && draw(4))
         j.line = 64 * m->control[NV_TURN_PAGE_AT];
-    j.allowance = draw(2) ? UNLIMITED : draw(j.call == TURN || j.call == PARK ? 80 : 20);
-    size_t buffer = j.call == LIST ? NV_LIST_LENGTH : NV_TEXT_LENGTH;
-    const size_t right[PARTS] = { sizeof keys, NV_CONTROL_LENGTH, m->array_len, m->cache_len, buffer, NV_NUMBERS_LENGTH };
+    j.allowance = draw(2) ? UNLIMITED : draw(j.call == TURN ? 80 : 20);
+    const size_t right[PARTS] = { sizeof keys, NV_CONTROL_LENGTH, m->array_len, m->cache_len, lists[j.call], NV_NUMBERS_LENGTH };
     memcpy(j.n, right, sizeof right);
     if (draw(8) == 0) {
         int part = (int)draw(PARTS);

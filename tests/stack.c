@@ -3,7 +3,7 @@
 #include "module.h"
 #include <ucontext.h>
 
-enum { ROOM = 1 << 16, LEAST = 16, MOST = 1536, MOST_OF_PARKING = 600 };
+enum { ROOM = 1 << 16, LEAST = 16, MOST = 1536 };
 
 static const calls ours = CALLS_OF(nv_);
 static _Alignas(64) uint8_t room[ROOM];
@@ -64,8 +64,7 @@ int main(void)
             used[depth] = high_water(depth, family, s);
         printf("stack: %-24s family %u: %5zu %5zu %5zu bytes at depths 1, 2, 3\n", scenario_names[s], family, used[1], used[2],
                used[3]);
-        size_t bound = scenario_calls[s] == PARK ? MOST_OF_PARKING : MOST;
-        if (used[1] < LEAST || used[1] > bound || used[2] != used[1] || used[3] != used[1])
+        if (used[1] < LEAST || used[1] > MOST || used[2] != used[1] || used[3] != used[1])
             failed++;
         else
             passed++;

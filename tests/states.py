@@ -11,9 +11,8 @@ OTHER_TAG = KEYS[:47] + bytes([255])
 ALLOWANCES = tuple(range(20)) + (20, 2**32 - 1, 2**32, 2**63, UNLIMITED)
 DEPTHS = (1, 2, 3)
 # The most stores that each call makes at a depth: 2m + 3 of a batch of m cells, of a pending one m + 2. A turn has 62 batches of
-# one cell and one of two after its first; parking has one of two for each slot but that beside the top's.
-MOST_STORES = {h: {"read": 4 * h + 3, "write": 4 * h + 7, "turn": 4 * h + 324, "park": 7 * (2 * h + 3), "recover": 2 * h + 4}
-               for h in DEPTHS}
+# one cell and one of two after its first.
+MOST_STORES = {h: {"read": 4 * h + 3, "write": 4 * h + 7, "turn": 4 * h + 324, "recover": 2 * h + 4} for h in DEPTHS}
 
 # The paper's bench listing.
 LISTING = "w 0 17,w 0 18,r 0,k 2,w 0 19,p,r 0,k 4,w 0 20,p,r 0,k 1,w 0 99,p,r 0,r 64".split(",")
@@ -344,7 +343,7 @@ def drawn_turn(rng, depth, module, hot):
 
 def drawn_call(rng, depth, module, hot):
     """A call with right lengths: (name, arguments)."""
-    name = rng.choice(("read",) * 6 + ("write",) * 8 + ("turn",) * 2 + ("park",) * 2 + ("recover",) * 4 + ("dirty_pages",))
+    name = rng.choice(("read",) * 6 + ("write",) * 8 + ("turn",) * 2 + ("recover",) * 4 + ("dirty_pages",))
     keys = KEYS if rng.randrange(60) else rng.choice([OTHER_PAD, OTHER_TAG])
     allowance = UNLIMITED if rng.randrange(2) else rng.choice(ALLOWANCES)
     line = drawn_line(rng, depth, hot)
@@ -358,9 +357,7 @@ def drawn_call(rng, depth, module, hot):
         return name, (keys, control, array, cache, line, rng.randbytes(64), allowance, numbers)
     if name == "turn":
         return name, (keys, control, array, cache, *drawn_turn(rng, depth, module, hot), numbers)
-    if name == "park":
-        allowance = rng.choice([UNLIMITED, rng.choice(ALLOWANCES), rng.randrange(MOST_STORES[3]["park"])])
-    if name in ("park", "recover"):
+    if name == "recover":
         return name, (keys, control, array, cache, allowance, numbers)
     return name, (control, cache, rng.randbytes(32), numbers)
 
@@ -387,9 +384,17 @@ def misshapen(rng, arguments):
 @lru_cache(maxsize=64)
 def settled(depth, lines=(), major=0, family=0):
     """The module with a zero cache in whose array each (line, minor, text) stands written, all pages at this major."""
-    counts, texts = {line: minor for line, minor, _ in lines}, {line: text for line, _, text in lines}
-    majors = dict.fromkeys(range(model.pages(depth)), major)
-    array = model.parked_array(KEYS, depth, family, counts, texts, majors)
-    root = model.node_tag(KEYS, model.array_node(depth, array, depth, 0), depth, 0)
-    fresh = formatted(depth, family)
-    return fresh._replace(array=array, control=patched(fresh.control, 7, root))
+    counts = [[0] * 64 for _ in range(model.pages(depth))]
+    for line, minor, _ in lines:
+        counts[line // 64][line % 64] = minor
+    blocks = [model.counter_block(major, minors) for minors in counts]
+    tree = model.tree_over(KEYS, depth, blocks)
+    array = bytearray(model.array_length(depth))
+    for level, contents in enumerate(tree):
+        for index, content in enumerate(contents):
+            at = CELL * model.node_cell(depth, level, index)
+            array[at:at + CONTENT] = content
+    for line, minor, text in lines:
+        array[CELL * line:CELL * line + CELL] = model.data_cell(KEYS, family, text, line, major, minor)
+    fresh, root = formatted(depth, family), model.node_tag(KEYS, tree[depth][0], depth, 0)
+    return fresh._replace(array=bytes(array), control=patched(fresh.control, 7, root))

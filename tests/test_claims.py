@@ -2,10 +2,8 @@
 families.
 
 What other keys do; which lines still read after each refusal; that a refused recovery leaves no line to be read; how often
-lines can be written after a turn; what a write or a parking without a recovery leads to; what damage, a read and other keys do to
-a parked module, and what its queue may hold; which parked modules are equal, and which are not.
-That the lines of an open page, and no others, are refused, and that a turn can be finished from every cut that is tried, is held
-by test_turns.py and test_histories.py.
+lines can be written after a turn; what a write without a recovery leads to. That the lines of an open page, and no others, are
+refused, and that a turn can be finished from every cut that is tried, is held by test_turns.py and test_histories.py.
 """
 
 from collections import Counter
@@ -13,7 +11,7 @@ from collections import Counter
 import model
 import states
 from book import Book, misread, refuse, rows_of
-from library import BLANK, CUT, DONE, Library, Session, Tally, in_parallel
+from library import BLANK, DONE, Library, Session, Tally, in_parallel
 from model import CELL, CONTENT, SLOT_LENGTH
 from states import KEYS, text_of
 
@@ -282,7 +280,7 @@ def bad_control(depth, family):
     for at in (0, 3, 4, 5, 6, model.COUNT_AT, model.TURN_AT):
         session.load(good._replace(control=states.patched(good.control, at, b"\xee")))
         before = session.module()
-        for name in ("read", "write", "turn", "park", "recover", "dirty_pages"):
+        for name in ("read", "write", "turn", "recover", "dirty_pages"):
             numbers = {"line": 0, "page": 0, "allowance": model.UNLIMITED}
             memory.check_answer("%s with a bad control record" % name, session.make(name, **numbers), (121, 0, 0, 0))
         memory.check(session.module() == before, "a call on a bad control record changed the module")
@@ -335,151 +333,8 @@ def write_behind(depth, family):
     return memory
 
 
-def park_behind(depth, family):
-    """Parking without a recovery: with a cache of zeros it is done, stores nothing and parks nothing, and no line is lost; with one
-    that is a write behind it is done, and the next recovery is refused as 129, or, where the call that it has not brought a page into
-    the cache, a read too, as 127 at the top's slot."""
-    memory = Memory(depth, family)
-    session = memory.session
-    older = session.get("cache")
-    memory.write(1)
-    before = session.module()
-    memory.lose_power(0)
-    memory.check_answer("parking with a zero cache", session.park(), (DONE, 0, 0, 0))
-    memory.check(session.module() == before._replace(cache=bytes(len(before.cache))), "parking with a zero cache changed the module")
-    memory.check_answer("the recovery after it", session.recover(), (DONE, 0, len(LINES) + 1, 0))
-    memory.reads("parked with a zero cache, then recovered")
-    unformed = (127, 0, model.slot_of(depth, 0), 0)
-    for wanted, name in (((129, 0, 0, 0), None), (unformed, "read"), (unformed, "write")):
-        session.load(before)
-        if name:
-            session.make(name, line=64 * 3, allowance=model.UNLIMITED)
-        session.put("cache", older if name is None else before.cache)
-        memory.check(session.park()[0] == DONE, "parking with an older cache")
-        memory.lose_power(0)
-        memory.check_answer("the recovery after it", session.recover(), wanted)
-    return memory
-
-
-# ---- Parked modules ----
-
-def parked(depth, family):
-    """Parking checks no tag and uses no key: damage is neither found nor spread by it. Of a parked module's tree recovery looks at
-    the top alone: 129 if that is damaged, else done with the sum 0; reads find damage to any other block or node as 124, to a line
-    as 125, and all else reads."""
-    memory = Memory(depth, family)
-    session = memory.session
-    session.read(64 * 3)
-    before = session.module()
-    whole = session.park()
-    after = session.module()
-    cells = [(model.node_cell(depth, *node), *node) for node in nodes_of(depth)] + [(line, None, line) for line in LINES]
-    for cell, level, index in cells:
-        session.load(after)
-        memory.damage(cell, 9)
-        memory.lose_power(0xFF)
-        if level == depth:
-            memory.check_answer("recovery after damage to the top of a parked module", session.recover(), (129, 0, 0, 0))
-            continue
-        memory.check_answer("recovery of a parked module", session.recover(), (DONE, 0, 0, 0))
-        refused = (range(index, index + 1), 125) if level is None else (below(level, index), 124)
-        memory.reads("%d in a parked module" % refused[1], refused[:1], refused[1])
-    for line in LINES:
-        session.load(before)
-        memory.damage(line, 9)
-        memory.check_answer("parking over damage", session.park(), whole)
-        memory.reads("125 after parking", (range(line, line + 1),), 125)
-    for place in range(48):
-        session.load(before)
-        session.put("keys", with_byte(place))
-        memory.check_answer("parking with another byte %d" % place, session.park(), whole)
-        memory.check(session.module() == after, "parking with another byte %d left another module" % place)
-        memory.lose_power(0xFF)
-        wanted = (DONE if place < 32 else 129, 0, 0, 0)
-        memory.check_answer("recovery of a parked module with another byte %d" % place, session.recover(), wanted)
-    session.put("keys", KEYS)
-    return memory
-
-
-def parked_frame(depth, family):
-    """What else a recovery of a parked module looks at: 129 if the root in the control record is damaged, 127 if an entry of the
-    shadow is, but for the top's, which may be listed alone. After that 127 every line reads with a cache of zeros. A top that is in
-    the cache and clean is not stored: if its cell is damaged, a recovery builds it anew, and a parking leaves it so."""
-    memory = Memory(depth, family)
-    session = memory.session
-    session.park()
-    before = session.module()
-    session.put("control", states.patched(before.control, 7, bytes([before.control[7] ^ 1])))
-    memory.check_answer("recovery after damage to the root", session.recover(), (129, 0, 0, 0))
-    for slot in range(model.slots(depth)):
-        session.load(before)
-        memory.damage(model.shadow_cell(depth, slot), 0)
-        memory.lose_power(0xFF)
-        top = slot == model.slot_of(depth, 0)
-        memory.check(session.recover()[0] == (DONE if top else 127), "recovery after damage to the entry of slot %d" % slot)
-        memory.lose_power(0)
-        memory.reads("a cache of zeros after damage to the entry of slot %d" % slot)
-    for park, wanted in ((False, (DONE, 0, 0, 0)), (True, (129, 0, 0, 0))):
-        session.load(before)
-        session.read(0)
-        memory.damage(model.node_cell(depth, depth, 0), 9)
-        memory.check(not park or session.park()[0] == DONE, "parking over a damaged top")
-        memory.lose_power(0)
-        memory.check_answer("recovery after damage under a clean top, parked: %s" % park, session.recover(), wanted)
-    return memory
-
-
-def parked_queue(depth, family):
-    """Neither recovery nor parking clears the queue: the cell of a write that was cut before its commit may stay in it, and the next
-    write of that line has the same pad."""
-    memory = Memory(depth, family)
-    session = memory.session
-    memory.done(session.park())
-    memory.check(session.write(0, text_of(5), depth + 2)[0] == CUT, "a write with all its cells in the queue")
-    memory.lose_power(0)
-    memory.done(session.recover())
-    session.read(64)
-    memory.done(session.park())
-    at = model.QUEUE_AT + model.PLACE * (depth + 1)
-    left = session.get("control")[at + 8:at + 8 + CONTENT]
-    memory.done(session.write(0, text_of(6)))
-    stored = session.get("array")[:CONTENT]
-    memory.check(model.xor(left, stored) == model.xor(text_of(5), text_of(6)), "the queue of a parked module has no text under that pad")
-    return memory
-
-
-def parked_after(depth, family, before, since):
-    """Line 0 written so often before a turn of its page and after it, always with one text; then parked."""
-    memory = Memory(depth, family, (1,))
-    for _ in range(before):
-        memory.done(memory.session.write(0, text_of(9)))
-    memory.done(memory.session.turn(0))
-    for _ in range(since):
-        memory.done(memory.session.write(0, text_of(9)))
-    memory.done(memory.session.park())
-    return memory
-
-
-def parked_equal(depth, family):
-    """With the same texts and turns, parked arrays are equal where the counters are: the writes since the page's last turn, and one
-    more if the line was written before it. As many writes in all, or as many since the turn, do not make them so. A read after the
-    parking changes the array, and parking again brings it back."""
-    memory = parked_after(depth, family, 2, 3)
-    session, array = memory.session, memory.session.get("array")
-    for before, since, equal in ((5, 3, True), (0, 4, True), (3, 2, False), (0, 3, False)):
-        other = parked_after(depth, family, before, since).session.get("array")
-        memory.check((other == array) == equal, "parked after %d and %d writes: equal is not %s" % (before, since, equal))
-    memory.done(session.read(0))
-    memory.check(session.get("array") != array, "a read after the parking left the array")
-    memory.done(session.park())
-    memory.check(session.get("array") == array, "parked again after a read: another array")
-    return memory
-
-
-
 CLAIMS = (other_pads, other_tags, damaged_nodes, empty_cache, damaged_lines, refused_recoveries, nothing_written, bad_control,
-          writes_after_turn, write_behind, park_behind, parked, parked_frame, parked_queue,
-          parked_equal)
+          writes_after_turn, write_behind)
 
 
 def work(job):

@@ -12,7 +12,6 @@ import sys
 
 import model
 import test_cuts
-import test_parking
 import test_turns
 from library import Tally
 from states import DEPTHS
@@ -49,9 +48,9 @@ def check_quotes(tally):
 # ---- Counted in the tree, or of the library ----
 
 def definitions():
-    """Of the statements about histories and the files that they use, directly or through others: how many lines they have,
+    """Of the statement of the history rule and the files that it uses, directly or through others: how many lines they have,
     without blank ones, comments and imports, and how many files there are."""
-    left, lines = [("history_laws", "History"), ("history_laws", "Parking")], {}
+    left, lines = [("history_laws", "History")], {}
     while left:
         file = left.pop()
         path = "crates/%s/specs/%s.antt" % file
@@ -86,7 +85,7 @@ def said(pattern):
 def most_stores():
     """Of each call, at each depth."""
     found = {}
-    for depth, calls in said(r"(?:cuts|turns|parking): depth (\d): .*stores at most: (.*)"):
+    for depth, calls in said(r"(?:cuts|turns): depth (\d): .*stores at most: (.*)"):
         for call, stores in re.findall(r"nv_(\w+) (\d+)", calls):
             found.setdefault(call, {})[int(depth)] = int(stores)
     return {call: [stores[depth] for depth in DEPTHS] for call, stores in found.items()}
@@ -117,21 +116,18 @@ def rows():
     yield firmware, fr"\| stores of a read \| {N} \| {N} \| {N} \|", stores["read"]
     yield firmware, fr"\| stores of a write \| {N} \| {N} \| {N} \|", stores["write"]
     yield firmware, fr"\| stores of a turn \| {N} \| {N} \| {N} \|", stores["turn"]
-    yield firmware, fr"\| stores of a parking \| {N} \| {N} \| {N} \|", stores["park"]
     yield firmware, fr"\| stores of a recovery \| {N} \| {N} \| {N} \|", stores["recover"]
     yield inspector, f"It makes at most {N} stores", [max(stores["recover"])]
     yield inspector, f"It sets {N} bytes in two places, in {N} instructions on this build", commit
     yield inspector, fr"\({N} calls at each", [stepped]
-    yield inspector, f"The statements stand on {N} lines in {N} files", definitions()
+    yield inspector, f"The statement stands on {N} lines in {N} files", definitions()
     yield inspector, f"`tools/test` does so with {N} edits of", [edits("history_laws")]
     yield inspector, f"of {N} reads and writes with small and full batches", [len(list(test_cuts.scenarios(1)))]
-    yield inspector, f"of parkings of {N} kinds of cache", [len(test_parking.CACHES)]
     yield inspector, f"of turns of pages with {N} {N} {N} {N} and {N} written lines", test_turns.COUNTS
     failures = [int(re.search(r"FAILURES = (\d+)", text_of("examples/recorder.c")).group(1))]
     yield inspector, f"`recorder try` loses power {N} times", failures
     yield "README.md", f"recorder try trial 1 +loses power {N} times", failures
     yield header, f"at most {N} stores", [max(stores["turn"])]
-    yield header, f"up to {N} stores", [max(stores["park"])]
     yield header, f"STORED WHOLE: {N} bytes", commit[:1]
     for call, size in said(r"stack: (nv_\w+): at most (\d+) bytes"):
         yield firmware, fr"\| `{call}` \| {N} \|\n", [int(size)]

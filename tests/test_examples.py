@@ -225,47 +225,6 @@ def judged(start):
         ("other-judged", "turnRefusal (upTo 48 0) 1 (record { array = start .array; control = openControl; cache = start .cache })", 30)))
 
 
-def in_numbers(store):
-    """A store as `inNumbers` has it."""
-    at, data = store.pieces[0]
-    if store.target == "array":
-        return "2 ∷ %d ∷ []" % (at // model.CELL)
-    if at >= model.QUEUE_AT:
-        return "0 ∷ %d ∷ %d ∷ %s" % ((at - model.QUEUE_AT) // 80, model.number_at(data, 0), literal(data[8:]))
-    if at == model.ROOT_AT:
-        return "3 ∷ %d ∷ []" % model.number_at(data, 0)
-    return "4 ∷ []" if len(data) == 1 else "1 ∷ %d ∷ %d ∷ []" % (data[0], model.number_at(data, 1))
-
-
-def parked(start):
-    """A parking of a cache with two dirty slots, a clean one and an empty one that is not zero: its stores, where it is done and cut, how
-    many stores come before the top's batch is committed; and its refusals in sequence."""
-    slots = [(1, 1, 129), (2, 0, 7), (0, 0, 9), (0, 0, 0), (1, 1, 5), (0, 0, 0)]
-    cache = b"".join(model.number8(owner) + bytes([dirty, byte]) + bytes(63) for owner, dirty, byte in slots)
-    module = start._replace(cache=cache)
-    stores, root = model.park_stores(module), model.number_at(model.root_of(start.control), 0)
-    batches = [batch for _, batch in model.park_batches(module)]
-    before = sum(2 * len(batch) + 3 for batch in batches[:-1]) + len(batches[-1])
-    for allowance, wanted in (len(stores), "done"), (len(stores) - 1, "cut"):
-        answer, after = model.park_call(KEYS, allowance, module)
-        assert (answer.kind, answer.stores) == (wanted, allowance)
-        assert after.cache == (bytes(len(cache)) if wanted == "done" else cache) and model.root_of(after.control) == model.number8(root)
-    opening = module._replace(control=opened(start))
-    assert model.park_call(KEYS, 0, opening)[0].number == 30
-    assert model.park_call(KEYS, 0, opening._replace(cache=bytes([9]) + cache[1:]))[0].number == 23
-    term = "(record { array = start .array; control = %s; cache = %s })"
-    call = "left (park (upTo 48 0) %d " + term % ("start .control", "slotsToPark") + ")"
-    return (theorem("parking", "map inNumbers (parkStores 1 (rootOf (start .control)) slotsToPark 0 6)",
-                    listed_terms(["(%s)" % in_numbers(store) for store in stores]), "inNumbers start slotsToPark")
-            + theorem("parked", call % len(stores), "(Done %d 0, %d, emptyCache 1)" % (len(stores), root), "left start slotsToPark")
-            + theorem("park-cut", call % (len(stores) - 1), "(Cut %d, %d, slotsToPark)" % (len(stores) - 1, root), "left start slotsToPark")
-            + theorem("before-top", "beforeEmptied 1 0 slotsToPark 4", before, "slotsToPark")
-            + theorem("park-judged", "parkRefusal (upTo 48 0) %s" % (term % ("openControl", "slotsToPark")), 30,
-                      "start openControl slotsToPark")
-            + theorem("park-unformed", "parkRefusal (upTo 48 0) %s" % (term % ("openControl", "set slotsToPark 0 9")), 23,
-                      "start openControl slotsToPark")), cache
-
-
 def listed(start):
     """A list of dirty pages whose slots do not have them in rising number, with one that is clean among them."""
     slots = [(5, 1), (2, 1), (7, 0), (4, 1), (1, 1), (0, 0)]
@@ -279,7 +238,7 @@ def listed(start):
 HEAD = """\
 -- Written by tests/test_examples.py: a write with an eviction and a stop-loss store, outputs of reads, the batches of a turn and of a
 -- resumed one, what a recovery rebuilds, where a page is open too, the line that ends one, the step of a line without a phase byte,
--- refusals in sequence, a list of dirty pages, and a parking. Assumes nothing.
+-- refusals in sequence, and a list of dirty pages. Assumes nothing.
 use mathlib.Core.Path.{_≡_, refl}
 use mathlib.Core.List.{List, [], _∷_, _++_, map}
 use Prim.Native.Nat.{ℕ, _*_}
@@ -289,14 +248,12 @@ use Rattle·candidates.specs.declared.Choice.the-variants.{None, Several}
 use Rattle·answer.specs.declared.Answer.{Answer}
 use Rattle·answer.specs.declared.Answer.the-variants.{Done, Blank, Cut, Refused}
 use Rattle·cache.specs.Cache.{emptyCache}
-use Rattle·control.specs.Control.{Cell, root as rootOf}
-use Rattle·journal.specs.Journal.{Store, media}
-use Rattle·journal.specs.Journal.Store.{stage, commit, commitTurn, cell, root, clear}
+use Rattle·control.specs.Control.{Cell}
+use Rattle·journal.specs.Journal.{media}
 use Rattle·calls·specs.specs.Call.{Module, Called, accessRefusal}
 use Rattle·calls·specs.specs.Read.{Reading, read}
 use Rattle·calls·specs.specs.Write.{write}
 use Rattle·calls·specs.specs.Turn.{Batch, turnRefusal, turnFront, turnBatches, batchesOf, beforeLast}
-use Rattle·calls·specs.specs.Park.{parkRefusal, parkStores, park, beforeEmptied}
 use Rattle·calls·specs.specs.Recovery.{to, bad, byChoice, lineStep, soFar, failed, rebuildBlocks, rebuildNodes, recoverRebuilt}
 use Rattle·calls·specs.specs.DirtyPages.{dirtyPages}
 use Rattle·calls·proofs.proofs.Run.{run}
@@ -315,19 +272,6 @@ seen n c = record { answer = c .answer; cache = c .after .cache; cell = part (c 
 given : Reading → Answer × List ℕ
 given r = (r .called .answer, r .output)
 
--- what a call answers, and the root and the cache that it leaves
-left : Called → Answer × ℕ × List ℕ
-left c = (c .answer, rootOf (c .after .control), c .after .cache)
-
--- a store in numbers: a cell staged, a commit, a cell, the root, count 0
-inNumbers : Store → List ℕ
-inNumbers (stage j c) = 0 ∷ j ∷ c .number ∷ c .bytes
-inNumbers (commit n r) = 1 ∷ n ∷ r ∷ []
-inNumbers (commitTurn n r s) = 5 ∷ n ∷ r ∷ s
-inNumbers (cell c) = 2 ∷ c .number ∷ []
-inNumbers (root r) = 3 ∷ r ∷ []
-inNumbers clear = 4 ∷ []
-
 -- the cell numbers of each batch, and its section
 shapes : List Batch → List (List ℕ × List ℕ)
 shapes bs = map (λ (b : Batch). (map (λ (c : Cell). c .number) (b .cells), b .section)) bs
@@ -338,10 +282,6 @@ start =
 
 openControl : List ℕ
 openControl =
-    %s
-
-slotsToPark : List ℕ
-slotsToPark =
     %s
 """
 
@@ -356,11 +296,9 @@ def main(words):
         print(__doc__)
         return 2
     start = before_eviction()
-    parking, cache = parked(start)
-    text = HEAD % (module_text(start), literal(opened(start)), literal(cache))
+    text = HEAD % (module_text(start), literal(opened(start)))
     for runs_of in written, reads, turned, finished, rebuilt, rebuilt_open, failing, chosen, judged, listed:
         text += runs_of(start)
-    text += parking
     path = os.path.join(TOP, FILE)
     if words:
         with open(path, "w", encoding="utf-8") as f:

@@ -19,6 +19,7 @@ from itertools import combinations, count
 
 import model
 import states
+from book import Book, fresh_blocks
 from library import CUT, DONE, Library, NUMBERS, REFUSED, Tally, in_parallel
 from model import CONTENT, UNLIMITED, number8
 from states import KEYS, text_of
@@ -189,7 +190,7 @@ class InDoubt(Rule):
         self.reached.update(kinds + (("after stores",) if stores else ()))
 
     def root(self, counts):
-        blocks = model.fresh_blocks(self.depth, counts, self.book.turns)
+        blocks = fresh_blocks(Book(counts, turns=self.book.turns), self.depth)
         return model.node_tag(self.keys, model.tree_over(self.keys, self.depth, blocks)[self.depth][0], self.depth, 0)
 
     def scratch_recovers(self, module):

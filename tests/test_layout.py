@@ -303,7 +303,6 @@ def images(tally, layout, depth, family):
     top = model.node_cell(depth, depth, 0)
     tally.check(image.cell(top) == model.cell_at(states.formatted(depth).array, top), "depth %d: the top's cell has changed" % depth)
     rest_is_zero(tally, layout, depth, image, texts)
-    parked(tally, layout, depth, family, session, texts)
     open_page(tally, layout, depth, session, texts)
 
 
@@ -317,18 +316,6 @@ def rest_is_zero(tally, layout, depth, image, texts):
                 "depth %d: the rest of a shadow cell" % depth)
     tally.check(all(image.cell(line) == bytes(72) for line in range(model.lines(depth)) if line not in texts),
                 "depth %d: the cell of a line never written" % depth)
-
-
-def parked(tally, layout, depth, family, session, texts):
-    """A parked module is read from array and control record alone: its tree holds in the array, and its shadow is all zero."""
-    before = session.module()
-    assert session.park()[0] == DONE
-    image = Image(layout, depth, family, session.module()._replace(cache=bytes(model.cache_length(depth))))
-    tally.check(image.tree_holds(), "depth %d: the tree of a parked module" % depth)
-    tally.check(all(image.text(line) == text for line, text in texts.items()), "depth %d: the lines of a parked module" % depth)
-    shadow = range(model.shadow_cell(depth, 0), model.cells(depth))
-    tally.check(all(image.cell(cell) == bytes(72) for cell in shadow), "depth %d: the shadow of a parked module" % depth)
-    session.load(before)
 
 
 def open_page(tally, layout, depth, session, texts):

@@ -24,13 +24,10 @@ REFUSALS = {
     "read": (2, 3, 21, 4, 5, 7, 6, 22, 23, 30, 24, 25),
     "write": (2, 3, 21, 4, 5, 7, 6, 22, 23, 30, 24, 26),
     "turn": (2, 3, 21, 4, 5, 6, 22, 23, 30, 24, 31, 25),
-    "park": (2, 3, 21, 4, 5, 22, 23, 30),
     "recover": {0: (2, 3, 21, 4, 5, 27, 28, 32, 29), 1: (2, 3, 21, 4, 5, 27, 33, 29)},
     "dirty_pages": (3, 21, 5, 7, 23),
 }
-ANSWERS = {"format": (0,), "read": (0, 1, 2), "write": (0, 2), "turn": (0, 2), "park": (0, 2), "recover": (0, 2),
-           "dirty_pages": (0,)}
-STORING = ("read", "write", "turn", "park", "recover")
+ANSWERS = {"format": (0,), "read": (0, 1, 2), "write": (0, 2), "turn": (0, 2), "recover": (0, 2), "dirty_pages": (0,)}
 
 
 def module_after(name, slices, module):
@@ -87,7 +84,7 @@ class Walk:
         if name != "format" and control[:4] in model.MARKS:
             family = model.family_of(control)  # damage may have changed it
         self.reached[family, name, 7 if code == 107 and len(arguments[-1]) != 24 else code, len(arguments[-1]) == 24] += 1
-        if name in STORING:
+        if name in ("read", "write", "turn", "recover"):
             self.allowances.add((name, arguments[-2]))
             if code < 2:
                 self.stores.add((name, numbers_of(slices)[0]))
@@ -144,7 +141,7 @@ def check_refusals(tally, depth, family, reached):
 
 
 def check_reached(tally, depth, allowances, stores):
-    for name in STORING:
+    for name in ("read", "write", "turn", "recover"):
         missing = [a for a in states.ALLOWANCES if (name, a) not in allowances]
         tally.check(not missing, "depth %d: nv_%s not tried with allowances %s" % (depth, name, missing))
     for name, most in {**states.MOST_STORES[depth], "recover": ANY_QUEUE}.items():

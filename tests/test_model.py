@@ -9,9 +9,8 @@ from model import (Answer, History, Module, UNLIMITED, array_length, bench,
                    brought_forward, cache_length, candidates, cells, choice,
                    counter_block, dirty_list_call, fits, for_c, format_call,
                    forward_fault, minors_of, node_cell, number8, pages, lines,
-                   park_call, read_call, recover_call, run_history,
-                   shadow_cell, slot_of, slots, turn_call, write_call,
-                   zero_module)
+                   read_call, recover_call, run_history, shadow_cell, slot_of,
+                   slots, turn_call, write_call, zero_module)
 from states import (KEYS, LISTING, OTHER_PAD, OTHER_TAG, PRINTED, block_stored,
                     cell_patched, formatted, opened, patched, resealed,
                     settled, text_of, with_stored_minor)
@@ -335,40 +334,6 @@ def test_turn_again():
           text_of(2))
 
 
-def test_parked_modules():
-    """What parking leaves, of all kinds of slots, under any allowance that
-    is enough."""
-    for depth, most in ((1, 35), (2, 49), (3, 63)):
-        module = written(depth, *[64 * page for page in
-                                  (0, 1, 2, 3, 9, 74)[:3 + depth]])
-        answer, parked = park_call(KEYS, most, module)
-        equal("most stores of a parking", answer,
-              Answer("done", 0, most, 0, 0))
-        equal("cut one store before", park_call(KEYS, most - 1, module)[0],
-              Answer("cut", 0, most - 1, 0, 0))
-        shadow = 72 * shadow_cell(depth, 0)
-        equal("shadow and cache after it", (parked.array[shadow:],
-                                            parked.cache),
-              (bytes(72 * slots(depth)), bytes(cache_length(depth))))
-        for slot in model.slots_of_cache(module.cache)[:4]:
-            equal("parked block", model.array_node(
-                depth, parked.array, 0, slot.owner - 1), slot.content)
-        equal("root after it", parked.control[7:15], module.control[7:15])
-        equal("recovery of a parked module", recover_call(KEYS, 0, parked),
-              (Answer("done", 0, 0, 0, 0), parked))
-        for keys in (OTHER_TAG, OTHER_PAD):
-            equal("parked with other keys",
-                  park_call(keys, UNLIMITED, module), (answer, parked))
-    junk = formatted(1)._replace(cache=(bytes(9) + b"\xee" * 64) * 6)
-    equal("an empty cache", park_call(KEYS, 0, junk),
-          (Answer("done", 0, 0, 0, 0), formatted(1)))
-    module = read_call(KEYS, 0, UNLIMITED, OUTPUT, formatted(1))[1]
-    equal("clean slots", park_call(KEYS, UNLIMITED, module)[0].stores, 10)
-    module = write_call(KEYS, 64, text_of(1), UNLIMITED, module)[1]
-    equal("clean and dirty slots",
-          park_call(KEYS, UNLIMITED, module)[0].stores, 5 + 7 + 7)
-
-
 def test_dirty_slots():
     def listed(module):
         _, output = dirty_list_call(bytes(32), module.control, module.cache)
@@ -554,29 +519,6 @@ def test_turn_refusals():
         equal("turn to the last major", answer, Answer("done", 0, 23, 0, 0))
         equal("another turn", turn_call(KEYS, 0, UNLIMITED, after)[0],
               refusal(31))
-
-
-def test_park_refusals():
-    def check_refused(wanted, keys, **parts):
-        module = Module(**parts)
-        for allowance in (0, UNLIMITED):
-            equal("park refusal", park_call(keys, allowance, module),
-                  (wanted, module))
-
-    for family in (0, 1):
-        module = evicted(1, family)
-        inputs = dict(module._asdict(), keys=KEYS)
-        defects = [(wanted, name, change) for wanted, name, change
-                   in LINE_DEFECTS if name in inputs]
-        equal("last defect", defects[-1][0], refusal(24))
-        peeled(check_refused, inputs, defects[:-1])
-        for page in (0, 4, 7):
-            check_refused(refusal(30), KEYS, **opened(module, page,
-                                                      1 << 63)._asdict())
-        unread = module._replace(array=b"\xa5" * array_length(1), control=patched(
-            module.control, 665, b"\xff" * 16))
-        equal("nothing else is read",
-              park_call(KEYS, UNLIMITED, unread)[0].kind, "done")
 
 
 def test_resumed_turns():
@@ -1153,48 +1095,6 @@ def test_turn_stores_one_by_one():
           (Answer("done", 0, 23, 0, 0), after))
 
 
-def test_park_stores_one_by_one():
-    """Page 0 clean, page 1 dirty, the top dirty; slot by slot."""
-    module = written(1, 64, 0, 0, 0, 0)
-    module = module._replace(control=patched(module.control, 665, b"\xee" * 16))
-    top = module.cache[4 * 73 + 9:5 * 73]
-    batches = [
-        [(shadow_cell(1, 0), bytes(72))],
-        [(513, counter_block(0, [1]) + bytes(8)),
-         (shadow_cell(1, 1), bytes(72))],
-        [(520, top + bytes(8)), (shadow_cell(1, 4), bytes(72))],
-    ]
-    root = module.control[7:15]
-    array, control = bytearray(module.array), bytearray(module.control)
-    states = [(bytes(array), bytes(control))]
-
-    def note():
-        states.append((bytes(array), bytes(control)))
-
-    for batch in batches:
-        for j, (cell, data) in enumerate(batch):
-            control[24 + 80 * j:104 + 80 * j] = number8(cell) + data
-            note()
-        control[15:24] = bytes([len(batch)]) + root
-        note()
-        for cell, data in batch:
-            array[72 * cell:72 * cell + 72] = data
-            note()
-        control[7:15] = root
-        note()
-        control[15] = 0
-        note()
-    equal("number of stores", len(states) - 1, 5 + 7 + 7)
-    for k, wanted in enumerate(states):
-        answer, state = park_call(KEYS, k, module)
-        equal("parking after %d stores" % k, state[:2], wanted)
-        if k < 19:
-            equal("cut parking %d" % k, (answer, state.cache),
-                  (Answer("cut", 0, k, 0, 0), module.cache))
-    equal("parking done at 19", (answer, state.cache),
-          (Answer("done", 0, 19, 0, 0), bytes(cache_length(1))))
-
-
 def test_batch_bound():
     for depth, others, wanted in ((1, 256, 11), (2, 1024, 15), (3, 8192, 19)):
         module = written(depth, 0, 0, 0, others)
@@ -1234,13 +1134,6 @@ def test_forbidden_lists():
         "read after a cut turn": [WRITE, ("turn", KEYS, 0, 3),
                                   ("read", KEYS, 64, UNLIMITED, OUTPUT)],
         "other keys, done turn": [WRITE, ("turn", OTHER_PAD, 0, UNLIMITED)],
-        "parking after a cut": [WRITE, CUT_WRITE, ("park", KEYS, 0)],
-        "read after a cut parking": [WRITE, ("park", KEYS, 13),
-                                     ("read", KEYS, 0, UNLIMITED, OUTPUT)],
-        "parking after a cut one": [WRITE, ("park", KEYS, 1),
-                                    ("park", KEYS, UNLIMITED)],
-        "other keys, done parking": [WRITE, ("park", OTHER_TAG, UNLIMITED)],
-        "other keys, cut parking": [WRITE, ("park", OTHER_PAD, 0)],
         "unknown event": [("erase", KEYS)],
         "page": [("turn", KEYS, 2**64, 0)],
         "family": [("format", KEYS, 1, 2**64)],
@@ -1265,14 +1158,10 @@ def test_allowed_list():
         ("write", OTHER_TAG, 64, text_of(3), 0),
         ("turn", OTHER_TAG, 0, 0), ("turn", KEYS + KEYS, 0, 0),
         ("turn", KEYS, 8, 0), ("turn", KEYS, 0, UNLIMITED),
-        ("park", KEYS[:47], 0), ("park", b"", UNLIMITED),
         ("recover", OTHER_TAG, 0), ("recover", KEYS + KEYS, 0), CUT_WRITE,
         ("recover", KEYS[:5], 0), ("power_cut", JUNK), ("recover", KEYS, 1),
         ("power_cut", JUNK), ("recover", KEYS, UNLIMITED), ("list", bytes(32)),
-        ("recover", KEYS, 0), ("park", KEYS, 8), ("recover", KEYS, 1),
-        ("power_cut", JUNK), ("recover", KEYS, UNLIMITED),
-        ("park", KEYS, UNLIMITED), ("park", KEYS, 0), ("list", bytes(32)),
-        ("recover", KEYS, 0), WRITE]
+        ("recover", KEYS, 0)]
     for family in (0, 1):
         attempt("allowed list of family %d" % family,
                 lambda f=family: run_history(KEYS, 1, events, f))
@@ -1314,13 +1203,10 @@ def test_checker_bites():
         history.module = history.module._replace(
             control=patched(history.module.control, 7, bytes(8)))
 
-    def listed(history):
-        history.owners = [1] + [0] * 5
-
     attempt("nothing tampered with",
             lambda: tampered(lambda history: None))
     for change in (book_count, book_turns, book_open, book_text, data_cell,
-                   top, root, listed):
+                   top, root):
         try:
             tampered(change)
         except AssertionError:
@@ -1425,7 +1311,7 @@ def random_event(rng, history, hot):
         line = rng.randrange(lines(history.depth))
     if history.open is not None and rng.random() < 0.4:
         line = 64 * history.open + rng.randrange(3)
-    if rng.random() < 0.08:
+    if rng.random() < 0.04:
         line = lines(history.depth) + rng.choice((0, 1, 2**63))
     length = 64 if rng.random() < 0.96 else rng.choice((0, 63, 65))
     content = bytes([rng.randrange(256)]) * length
@@ -1441,10 +1327,8 @@ def random_event(rng, history, hot):
         return ("write", keys, line, content, allowance)
     if style < 0.75:
         return ("read", keys, line, allowance, content)
-    if style < 0.80:
+    if style < 0.82:
         return ("recover", keys, allowance)
-    if style < 0.84:
-        return ("park", keys, rng.choice((rng.randrange(30), UNLIMITED)))
     if style < 0.88:
         return ("list", bytes(32 if rng.random() < 0.8 else 31))
     if style < 0.92:
@@ -1464,7 +1348,7 @@ def check_step(history, before, event, answer, output):
     if answer.kind == "cut":
         model.claim(history.module.cache == before.cache, "cache at a cut")
         model.claim(answer.stores == event[{"read": 3, "write": 4, "turn": 3,
-                                            "park": 2, "recover": 2}[kind]],
+                                            "recover": 2}[kind]],
                     "stores of a cut")
     if kind == "read":
         line = event[2]
@@ -1541,8 +1425,7 @@ def random_histories(family, rows, with_other_keys):
     for name in ("write done", "write cut", "read done", "read blank",
                  "read cut", "turn done", "turn cut", "turn refused 2",
                  "turn refused 6", "turn refused 30", "read refused 30",
-                 "write refused 30", "park done", "park cut", "park refused 2",
-                 "park refused 30", "recover done", "recover cut", "list done",
+                 "write refused 30", "recover done", "recover cut", "list done",
                  "power_cut", "write refused 2", "write refused 6",
                  "write refused 7", "read refused 2", "read refused 6",
                  "read refused 7", "recover refused 2", with_other_keys,
@@ -1656,40 +1539,6 @@ def test_every_cut_of_a_turn():
         attempt("every cut of a turn, %d lines" % (1 + len(others)), action)
 
 
-def every_cut_of_a_parking(history, rounds):
-    """Cut at every store, recovered from, and parked again; the array is the
-    same each time, and the book stays."""
-    book = dict(history.counts), dict(history.texts), dict(history.turns)
-    whole, parked = park_call(KEYS, UNLIMITED, history.module)
-    for k in range(whole.stores + 1):
-        part = history.copy()
-        answer, _ = part.step(("park", KEYS, k))
-        model.claim(answer.kind == ("cut" if k < whole.stores else "done"),
-                    "answer of cut %d" % k)
-        part.step(("power_cut", b"\xff" * cache_length(history.depth)))
-        for ended in every_recovery(part, rounds):
-            model.claim((ended.counts, ended.texts, ended.turns) == book,
-                        "book of a parking cut after %d" % k)
-            ended.step(("park", KEYS, UNLIMITED))
-            model.claim(ended.module.array == parked.array,
-                        "array of a parking cut after %d" % k)
-            answer, _ = ended.step(("recover", KEYS, 0))
-            model.claim(answer == Answer("done", 0, 0, 0, 0),
-                        "recovery of a parked module")
-
-
-def test_every_cut_of_a_parking():
-    for depth, family, rounds in ((1, 0, 2), (1, 1, 2), (2, 0, 1), (3, 1, 0)):
-        def action(depth=depth, family=family, rounds=rounds):
-            history = History(KEYS, depth, family)
-            for line in (0, 0, 64, 192):
-                history.step(("write", KEYS, line, text_of(line), UNLIMITED))
-            history.step(("turn", KEYS, 0, UNLIMITED))
-            history.step(("read", KEYS, lines(depth) - 1, UNLIMITED, OUTPUT))
-            every_cut_of_a_parking(history, rounds)
-        attempt("every cut of a parking at depth %d" % depth, action)
-
-
 def test_worn_line():
     """A line up to its last minor, with cuts on the way; then its page is
     turned."""
@@ -1720,24 +1569,21 @@ def main():
     for test in (test_primitives, test_arithmetic, test_candidates, test_bench,
                  test_format,
                  test_bytes_of_a_write, test_bytes_of_a_turn,
-                 test_turn_batches, test_turn_again, test_parked_modules,
-                 test_dirty_slots,
+                 test_turn_batches, test_turn_again, test_dirty_slots,
                  test_format_refusals, test_read_refusals,
                  test_write_refusals, test_turn_refusals,
-                 test_park_refusals, test_resumed_turns, test_recovery_refusals,
+                 test_resumed_turns, test_recovery_refusals,
                  test_damaged_lines, test_damaged_tags, test_several_fit,
                  test_list_refusals, test_bad_top,
                  test_bad_nodes, test_bad_shadows, test_bad_control_records,
                  test_open_sections, test_open_page,
                  test_open_page_without_phases, test_open_worn_page,
                  test_bad_caches, test_c_side, test_stores_one_by_one,
-                 test_turn_stores_one_by_one, test_park_stores_one_by_one,
-                 test_batch_bound,
+                 test_turn_stores_one_by_one, test_batch_bound,
                  test_forbidden_lists, test_allowed_list, test_checker_bites,
                  test_refused_recoveries_bite,
                  test_random_histories, test_every_cut,
-                 test_every_cut_of_a_turn, test_every_cut_of_a_parking,
-                 test_worn_line):
+                 test_every_cut_of_a_turn, test_worn_line):
         try:
             test()
         except Exception as failure:

@@ -56,30 +56,19 @@ LIARS = (
     (void)cache, (void)cache_len, (void)page, (void)allowance;
     memset(numbers, 0, numbers_len);
     return NV_DONE;"""),
-    ("nv_park", "a parking that is told as done and was not made", """
-    (void)keys, (void)keys_len, (void)control, (void)control_len, (void)array, (void)array_len;
-    (void)cache, (void)cache_len, (void)allowance;
-    memset(numbers, 0, numbers_len);
-    return NV_DONE;"""),
-    ("nv_park", "a parking that leaves the contents of the slots behind", """
-    for (uint64_t dirty = 8; dirty < cache_len; dirty += 73)
-        cache[dirty] = 0;
-    return nv_park(keys, keys_len, control, control_len, array, array_len, cache, cache_len, allowance, numbers,
-                   numbers_len);"""),
     ("nv_recover", "a recovery that brings an older state back", """
     static uint8_t controls[NV_CONTROL_LENGTH], arrays[NV_ARRAY_LENGTH_1];
     static int calls;
     if (++calls == 100)
         memcpy(controls, control, control_len), memcpy(arrays, array, array_len);
-    if (calls == 158)
+    if (calls == 160)
         memcpy(control, controls, control_len), memcpy(array, arrays, array_len);
     return nv_recover(keys, keys_len, control, control_len, array, array_len, cache, cache_len, allowance, numbers,
                       numbers_len);"""),
 )
 # Those that a new process tells again, and so show in `run` and `check` too.
 SHOWN_IN_RUNS = ("a write that is told as done and was not made", "a blank read with a zero at its end",
-                 "a turn that is told as done and was not made", "a parking that is told as done and was not made",
-                 "a parking that leaves the contents of the slots behind")
+                 "a turn that is told as done and was not made")
 
 
 def build(archive, work, name, *more, flags=STRICT):
@@ -200,17 +189,16 @@ def kills(tally, program, work, family):
 # ---- A supply that fails at any store ----
 
 def seeds(tally, program, file, family):
-    totals = [0] * 8
+    totals = [0] * 6
     for seed in SEEDS[family]:
         status, said, fault = run(program, "try", "%s.%d" % (file, seed), str(seed), *(("1",) if family else ()))
         tally.check(status == 0 and not fault, "recorder with seed %d: status %d %s" % (seed, status, fault))
-        told = re.search(r"(\d+) turns of a worn row's page begun, (\d+) times resumed\nrecorder: (\d+) times parked, .*\n"
-                         r"recorder: power failed (\d+) times in writes, (\d+) in reads, (\d+) in turns, (\d+) in parkings, "
-                         r"(\d+) in recoveries", said)
+        told = re.search(r"(\d+) turns of a worn row's page begun, (\d+) times resumed\n"
+                         r"recorder: power failed (\d+) times in writes, (\d+) in reads, (\d+) in turns, (\d+) in recoveries", said)
         tally.check(told and all(int(n) >= 5 for n in told.groups()), "recorder with seed %d: %s" % (seed, said))
         totals = [a + int(b) for a, b in zip(totals, told.groups())] if told else totals
-    print("recorder: family %d: %d runs, %d turns begun, %d times resumed, %d times parked, power failed %d times in writes, %d in "
-          "reads, %d in turns, %d in parkings, %d in recoveries" % (family, len(SEEDS[family]), *totals))
+    print("recorder: family %d: %d runs, %d turns begun, %d times resumed, power failed %d times in writes, %d in reads, %d in "
+          "turns, %d in recoveries" % (family, len(SEEDS[family]), *totals))
 
 
 # ---- Lies ----
@@ -236,9 +224,7 @@ def liars(tally, program, archive, work):
         if what not in SHOWN_IN_RUNS:
             continue
         place = Place(tally, program, work)
-        place.record(20)
-        words = ("park", place.file) if call == "nv_park" else ("run", place.file, str(3 * PASS), place.witness)
-        status, _, fault = run(lying, *words)
+        status, _, fault = run(lying, "run", place.file, str(3 * PASS), place.witness)
         if call == "nv_write":
             tally.check(status == 0, "a lying write ends a run: %s" % fault)
             status, _, fault = run(program, "check", place.file, place.witness)
@@ -317,33 +303,6 @@ def torn_commits(tally, program, work, library, family):
             tally.check(content(place.file)[MARK_AT] == 0, "a boot that was good left the mark")
 
 
-def parkings(tally, program, work, library, family):
-    """A recorder parks after power failed at each store of a parking, and in a turn, and comes to the same bytes; it goes on from
-    there."""
-    place = Place(tally, program, work, family)
-    place.record(PASS + 118)
-    whole = content(place.file)
-    session = session_on(whole, library)
-    stores = session.park()[1]
-    parked = session.get("array")
-    tally.check(stores == 5 * 7, "a parking of %d stores" % stores)
-    for cut in range(stores):
-        session = session_on(whole, library)
-        tally.check(session.park(cut)[0] == 2, "a parking not cut")
-        store(place.file, file_of(whole, session, 0))
-        place.expect(0, "check", place.file, place.witness)
-        said = place.expect(0, "park", place.file)
-        tally.check(said == "recorder: parked, the last record is %d\n" % (PASS + 118), "park says %s" % said)
-        tally.check(content(place.file)[ARRAY_AT:] == parked, "parked again after %d stores: another array" % cut)
-    tally.check(place.expect(0, "park", place.file) == said and content(place.file)[ARRAY_AT:] == parked, "parked twice")
-    place.record(3)
-    place.expect(0, "check", place.file, place.witness)
-    store(place.file, next(raw for raw in (turn_cut(whole, library, 3, stores) for stores in range(50, 60)) if is_open(raw)))
-    place.expect(0, "park", place.file)
-    raw = content(place.file)
-    tally.check(not is_open(raw) and raw[MARK_AT] == 0 and not listed_pages(raw), "parked while a turn was open")
-
-
 def listed_pages(raw):
     """The pages that the shadow lists."""
     owners = (model.number_at(raw, ARRAY_AT + model.CELL * model.shadow_cell(1, slot)) for slot in range(model.COUNTER_SLOTS))
@@ -386,13 +345,12 @@ def command_line(tally, program, work):
     raw, absent = content(place.file), os.path.join(work, "none", "module")
     for words in (("format", place.file), ("format", place.file, "1"), ("try", place.file, "1"), ("try", place.file, "1", "0")):
         place.expect(1, *words, saying="exists, and format would destroy what it holds")
-    for words in (("format", absent), ("run", absent), ("check", absent), ("park", absent), ("try", absent, "1"),
+    for words in (("format", absent), ("run", absent), ("check", absent), ("try", absent, "1"),
                   ("check", place.file, os.path.join(work, "no witness"))):
         place.expect(1, *words, saying="No such file or directory")
     for words in ((), ("format",), ("format", place.file, "2"), ("format", place.file, ""), ("format", place.file, "1", "1"), ("run",),
                   ("run", place.file, "x"), ("run", place.file, "-1"), ("run", place.file, "2" * 20),
-                  ("run", place.file, "1", place.witness, "1"), ("check",), ("check", place.file, place.witness, "1"), ("park",),
-                  ("park", place.file, "1"),
+                  ("run", place.file, "1", place.witness, "1"), ("check",), ("check", place.file, place.witness, "1"),
                   ("try", place.file), ("try", place.file, "1 "), ("try", place.file, "1", "2"), ("try", place.file, "1", "1", "1"),
                   ("look", place.file)):
         status, said, fault = run(program, *words)
@@ -402,7 +360,7 @@ def command_line(tally, program, work):
     busy = subprocess.Popen((program, "run", place.file), stdout=subprocess.DEVNULL)
     while busy.poll() is None and content(place.file) == raw:
         time.sleep(0.001)
-    for words in (("run", place.file, "1"), ("check", place.file), ("park", place.file)):
+    for words in (("run", place.file, "1"), ("check", place.file)):
         place.expect(1, *words, saying="another recorder has it")
     busy.kill()
     busy.wait()
@@ -425,7 +383,6 @@ def main():
             seeds(tally, program, os.path.join(work, "try"), family)
             wrong_keys(tally, program, work, library, family)
             torn_commits(tally, program, work, library, family)
-            parkings(tally, program, work, library, family)
             damage(tally, program, work, family)
         liars(tally, program, archive, work)
         command_line(tally, program, work)

@@ -20,7 +20,6 @@ ORDER = {
     "read": (2, 3, 21, 4, 5, 7, 6, 22, 23, 30, 24, 25),
     "write": (2, 3, 21, 4, 5, 7, 6, 22, 23, 30, 24, 26),
     "turn": (2, 3, 21, 4, 5, 6, 22, 23, 30, 24, 31, 25),
-    "park": (2, 3, 21, 4, 5, 22, 23, 30),
     "recover": (2, 3, 21, 4, 5, "cut", 27, (28, 32, 33, 34), 29),
     "dirty_pages": (3, 21, 5, 7, 23),
 }
@@ -87,17 +86,15 @@ def pending(depth):
             for n in (1, 2, 8)]
 
 
-def bad_caches(depth, filled=False):
-    """Each clause of a formed cache, broken; of one in which the top is, or is not."""
+def bad_caches(depth):
+    """Each clause of a formed cache, broken."""
     top = slot_of(depth, 0)
     faults = []
     for slot in range(model.slots(depth)):
         level = model.level_of_slot(slot)
         rows = [(0, 1), (1 + slot % 2, 2), (2**64 - 1, 0), (model.nodes(depth, level) + 1, 0)]
         rows += [(i + 1, 0) for i in range(8) if slot_of(level, i) != slot]
-        if slot == top and filled:
-            rows.append((0, 0))
-        if slot != top and not filled:
+        if slot != top:
             rows += [(i + 1, 0) for i in range(model.nodes(depth, level)) if slot_of(level, i) == slot][:1]
         for owner, dirty in rows:
             faults.append(Fault(23, changed("cache", lambda c, s=slot, o=owner, d=dirty:
@@ -207,20 +204,6 @@ def turn_bases(depth, family):
              "control": patched(module.control, 664, section(1, page, mask_of(left)))}
     faults = bad_cells(counts[1:], family, 2**64 - 2) + lines_without_text(left, (64 * page, 64 * page + 63))
     yield parts, turn_faults(depth, page, module, worn) + faults
-
-
-def park_faults(depth, cache):
-    faults = wrong_lengths(2, "keys") + wrong_lengths(3, "control") + bad_controls(depth) + wrong_lengths(4, "array")
-    faults += wrong_lengths(5, "cache") + pending(depth) + bad_caches(depth, any(cache))
-    return faults + [fault for page in (0, 1, model.pages(depth) - 1) for fault in open_pages(page)]
-
-
-def park_bases(depth, family, empty):
-    """Arguments of parkings without a fault: with nothing in the cache, and with paths that are clean and dirty."""
-    filled = states.written(states.formatted(depth, family), 0, 64, 0)
-    filled = model.read_call(KEYS, model.lines(depth) - 1, UNLIMITED, text_of(0), filled)[1]
-    for module in (empty, filled):
-        yield {"array": module.array, "control": patched(module.control, 665, b"\xff" * 16), "cache": module.cache}
 
 
 def format_faults(depth):
@@ -405,7 +388,7 @@ class Refusals:
         arguments = fault.change(base)
         self.hold(name, fault, arguments)
         self.numbers_first(name, arguments)
-        if name in ("read", "write", "turn", "park"):
+        if name in ("read", "write", "turn"):
             self.hold(name, fault, {**arguments, "allowance": 0})
         self.singles += 1
 
@@ -423,7 +406,7 @@ class Refusals:
         self.without(name, base)
         for fault in faults:
             self.one(name, fault, base)
-        if name in ("read", "write", "turn", "park", "recover") and base["control"][15] == base["control"][664] == 0:
+        if name in ("read", "write", "turn", "recover") and base["control"][15] == base["control"][664] == 0:
             for fault in other_depths(base["depth"]):
                 self.one(name, fault, base)
         missing = [n for n in STEPS[name] if n not in {f.number for f in faults} and n not in NOT_HERE[base["family"]]
@@ -545,8 +528,6 @@ def of_modules(job):
         refusals.call(name, parts, line_faults(name, depth, family, line, worn))
     for more, faults in turn_bases(depth, family):
         refusals.call("turn", {**parts, **more}, faults)
-    for more in park_bases(depth, family, module):
-        refusals.call("park", {**parts, **more}, park_faults(depth, more["cache"]))
     refusals.call("dirty_pages", parts, list_faults(depth))
     any_cache = bytes([3]) * model.cache_length(depth)
     for module, lines in recovery_bases(depth, family):

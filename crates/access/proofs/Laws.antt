@@ -79,6 +79,5 @@ module _ (keys : List ℕ) (line : ℕ) (b : List ℕ) (m : Module) where
 abbrev last : ℕ → List ℕ → Bool → ℕ
 last h c kept = judged ((not (formed h c), 23) ∷ (kept, 30) ∷ [])
 
-pub at-depth : (c k : List ℕ) {h r : ℕ} {kept told t : Bool} → r ≡ last h c kept → h ≡ depth k → told ≡ t → kept ≡ told
-    → r ≡ last (depth k) c t
-at-depth c k e d q same = e ∙ ap₂ {C = ℕ} (λ (n : ℕ) (b : Bool). last n c b) d (same ∙ q)
+pub at-depth : (c k : List ℕ) {h r : ℕ} {kept t : Bool} → r ≡ last h c kept → h ≡ depth k → kept ≡ t → r ≡ last (depth k) c t
+at-depth c k e d q = e ∙ ap₂ {C = ℕ} (λ (n : ℕ) (b : Bool). last n c b) d q

@@ -5,7 +5,6 @@ ghost use Rattle.cache.specs.Cache.{formed};
 ghost use Rattle.calls.specs.Call.{buffers, judged, entry_refusal, access_refusal};
 ghost use Rattle.calls.specs.Recovery.{recovery_refusal};
 ghost use Rattle.calls.specs.Turn.{turn_refusal};
-ghost use Rattle.calls.specs.Park.{park_refusal};
 
 // 2 3 21 4 5
 pub fn opening(keys: &[u8], control: &[u8], array: &[u8], cache: &[u8]) -> u64
@@ -105,19 +104,4 @@ pub fn turning(keys: &[u8], control: &[u8], array: &[u8], cache: &[u8], page: u6
         return 22;
     }
     state(h, cache, control::other_open(control, page))
-}
-
-// The same of a parking: 2 3 21 4 5 22 23 30.
-pub fn parking(keys: &[u8], control: &[u8], array: &[u8], cache: &[u8]) -> u64
-    ensures { result ≡ park_refusal keys.now (buffers array.now control.now cache.now) }
-{
-    let number = opening(keys, control, array, cache);
-    if number != 0 {
-        return number;
-    }
-    let cells = control::count(control);
-    if 0 < cells {
-        return 22;
-    }
-    state(control::depth(control), cache, control::any_open(control))
 }

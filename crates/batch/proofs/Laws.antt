@@ -1,15 +1,14 @@
 -- Cells staged one after the other. Assumes nothing.
-use mathlib.Core.Path.{◌≡◌, refl, sym, ap, ◌∙◌}
+use mathlib.Core.Path.{◌≡◌, refl, ap, ◌∙◌}
 use mathlib.Core.List.{List, [], ◌∷◌, ◌++◌}
 use Prim.Native.Nat.{ℕ, suc, ◌+◌, ◌≤◌, ◌<◌}
 use native.Mathlib.Omega.{arith}
 use borrow.Author.Tests.{lt-ltb, le-ltb}
 use lib.ListN.{length, replicate, length-replicate}
 use lib.Seq.{take_all}
-use Rattle.words.specs.Bytes.{digits, to_le, part, put}
+use Rattle.words.specs.Bytes.{to_le, part, put}
 use Rattle.words.proofs.Digits.{length_digits}
-use Rattle.words.proofs.Parts.{length-put, put-append, put_three}
-use Rattle.words.proofs.Puts.{put-put, put-comm}
+use Rattle.words.proofs.Parts.{put_three}
 use Rattle.control.specs.Control.{Cell, place_at}
 use Rattle.batch.specs.Batch.{cell_with, shadow_for, staged, staged_from}
 
@@ -33,46 +32,17 @@ module _ (k : List ℕ) (n allowance : ℕ) where
         ∙ rw (lt-ltb n allowance within)
 
     -- number, owner and zeros
-    in-turn : (o : List ℕ) → length o ≡ 8
-        → put (put (put k (place_at n) (to_le 8 number)) (place_at n + 8) o) (place_at n + 16) (replicate 64 0)
-        ≡ put k (place_at n) (to_le 8 number ++ (o ++ replicate 64 0))
-    in-turn o size =
-        let w = length_digits 256 8 number in
-        let z = length-replicate {A = ℕ} 64 0 in
-        put_three k (place_at n) (to_le 8 number) o (replicate 64 0) (place_at n + 8) (place_at n + 16) (omega arith) (omega arith) (omega arith)
-
-    -- zeros first, in two parts
-    abbrev with_number : List ℕ
-    with_number = put k (place_at n) (to_le 8 number)
-
-    zeros : put with_number (place_at n + 8) (replicate 72 0)
-        ≡ put (put with_number (place_at n + 8) (replicate 8 0)) (place_at n + 16) (replicate 64 0)
-    zeros =
-        let size = length-put k (place_at n) (to_le 8 number) (omega (arith, length_digits 256 8 number)) in
-        let next : place_at n + 8 + 8 ≡ place_at n + 16 = omega arith in
-        sym (put-append with_number (place_at n + 8) (replicate 8 0) (replicate 64 0) (omega (arith, size)))
-        ∙ ap (λ (j : ℕ). put (put with_number (place_at n + 8) (replicate 8 0)) j (replicate 64 0)) next
-
-    pub shadow-none : (o : ℕ) → o ≡ 0 → put with_number (place_at n + 8) (replicate 72 0) ≡ staged allowance n (shadow_for number o) k
-    unfolding staged digits
-    shadow-none o e =
-        zeros ∙ in-turn (replicate 8 0) refl ∙ ap (λ (i : ℕ). put k (place_at n) (to_le 8 number ++ (to_le 8 i ++ replicate 64 0))) (sym e)
-        ∙ rw (lt-ltb n allowance within)
-
-    -- and then an owner over them
-    pub shadow-put : (o : ℕ) → put (put with_number (place_at n + 8) (replicate 72 0)) (place_at n + 8) (to_le 8 o)
+    pub shadow-put : (o : ℕ)
+        → put (put (put k (place_at n) (to_le 8 number)) (place_at n + 8) (to_le 8 o)) (place_at n + 16) (replicate 64 0)
         ≡ staged allowance n (shadow_for number o) k
     unfolding staged
     shadow-put o =
+        let w = length_digits 256 8 number in
         let v = length_digits 256 8 o in
-        let size = length-put k (place_at n) (to_le 8 number) (omega (arith, length_digits 256 8 number)) in
-        let cleared = put with_number (place_at n + 8) (replicate 8 0) in
-        let long = length-put with_number (place_at n + 8) (replicate 8 0) (omega (arith, size)) in
-        ap (λ (x : List ℕ). put x (place_at n + 8) (to_le 8 o)) zeros
-        ∙ sym (put-comm cleared (place_at n + 8) (to_le 8 o) (place_at n + 16) (replicate 64 0) (omega (arith, v)) (omega (arith, long, size)))
-        ∙ ap (λ (x : List ℕ). put x (place_at n + 16) (replicate 64 0))
-        (put-put with_number (place_at n + 8) (replicate 8 0) (omega (arith, size)) (to_le 8 o) (omega (arith, v)))
-        ∙ in-turn (to_le 8 o) v ∙ rw (lt-ltb n allowance within)
+        let z = length-replicate {A = ℕ} 64 0 in
+        put_three k (place_at n) (to_le 8 number) (to_le 8 o) (replicate 64 0) (place_at n + 8) (place_at n + 16) (omega arith) (omega arith)
+        (omega arith)
+        ∙ rw (lt-ltb n allowance within)
 
 -- one cell, none, and some after others
 pub staged-one : (allowance n : ℕ) (c : Cell) (k : List ℕ) → staged allowance n c k ≡ staged_from allowance n (c ∷ []) k

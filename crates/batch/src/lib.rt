@@ -26,20 +26,15 @@ pub fn put_cell(
     }
 }
 
-// Stages cell n of a batch: a shadow cell for an owner. The zeros are written first, so that they are read back in the pieces
-// that they were written in, and the owner only where there is one.
+// Stages cell n of a batch: a shadow cell for an owner.
 pub fn put_shadow(control: &mut [u8], n: usize, allowance: u64, number: usize, owner: u64)
     requires { (length control.old ≡ control_length) × (n < 8) }
     ensures { control.new ≡ staged allowance n (shadow_for number owner) control.old }
 {
-    if allowance <= n as u64 {
-        return;
+    if (n as u64) < allowance {
+        let at = control::PLACES + 80 * n;
+        store64(control, at, number as u64);
+        store64(control, at + 8, owner);
+        copying::zero(control, at + 16, 64);
     }
-    let at = control::PLACES + 80 * n;
-    store64(control, at, number as u64);
-    copying::zero(control, at + 8, 72);
-    if owner == 0 {
-        return;
-    }
-    store64(control, at + 8, owner);
 }

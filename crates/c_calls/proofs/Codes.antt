@@ -21,7 +21,6 @@ use Rattle.calls.specs.Call.{Module, Called, media_of, access_refusal, refuse, s
 use Rattle.calls.specs.Read.{Reading, line_minor, side_ok, answered, read_loaded, read_path, read_judged, read}
 use Rattle.calls.specs.Write.{write_loaded, write_path, write_judged, write}
 use Rattle.calls.specs.Turn.{turn_refusal, block_of, page_path, turn_checked, turn_loaded, turn_path, turn_judged, turn}
-use Rattle.calls.specs.Park.{park_refusal, park_judged, park}
 use Rattle.calls.specs.Recovery.{Forwarded, so_far, failed, source_of, recovery_refusal, recover_root}
 use Rattle.calls.specs.Recovery.{recover_rebuilt, recover_shadow, recover_judged, recover}
 use Rattle.calls.specs.Format.{format_refusal, formatted, format}
@@ -76,10 +75,6 @@ turn_small : (keys : List ℕ) (p : ℕ) (m : Module) → turn_refusal keys p m 
 unfolding turn_refusal
 turn_small keys p m =
     judged-most last_refusal _ (lit≤ tt, (lit≤ tt, (lit≤ tt, (lit≤ tt, (lit≤ tt, (lit≤ tt, (lit≤ tt, (lit≤ tt, (lit≤ tt, tt)))))))))
-
-park-small : (keys : List ℕ) (m : Module) → park_refusal keys m ≤ last_refusal
-unfolding park_refusal
-park-small keys m = judged-most last_refusal _ (lit≤ tt, (lit≤ tt, (lit≤ tt, (lit≤ tt, (lit≤ tt, (lit≤ tt, (lit≤ tt, (lit≤ tt, tt))))))))
 
 recovery-small : (keys : List ℕ) (m : Module) → recovery_refusal keys m ≤ last_refusal
 unfolding recovery_refusal
@@ -153,14 +148,6 @@ module _ (keys : List ℕ) (p allowance : ℕ) (m : Module) where
 
   pub turn-fits : Fits (turn keys p allowance m)
   turn-fits = turn-judged (turn_refusal keys p m) (turn_small keys p m)
-
-park-judged : (allowance : ℕ) (m : Module) (n : ℕ) → n ≤ last_refusal → Fits (park_judged n allowance m)
-unfolding park_judged
-park-judged allowance m zero q = storing-fits allowance m _ _ _ (done-fits _ 0)
-park-judged allowance m (suc n) q = refused-fits (suc n) 0 0 0 m q
-
-pub park-fits : (keys : List ℕ) (allowance : ℕ) (m : Module) → Fits (park keys allowance m)
-park-fits keys allowance m = park-judged allowance m (park_refusal keys m) (park-small keys m)
 
 step_small : (f : ℕ) {k : ℕ} → StepRefusal f k → k ≤ last_refusal
 unfolding StepRefusal

@@ -4,7 +4,6 @@ ghost use Rattle.calls.specs.Call.{buffers};
 ghost use Rattle.calls.specs.Read.{read as read_of};
 ghost use Rattle.calls.specs.Write.{write as write_of};
 ghost use Rattle.calls.specs.Turn.{turn as turn_of};
-ghost use Rattle.calls.specs.Park.{park as park_of};
 ghost use Rattle.calls.specs.Recovery.{recover as recover_of};
 ghost use Rattle.calls.specs.Format.{format as format_of};
 ghost use Rattle.calls.specs.DirtyPages.{dirty_pages};
@@ -121,30 +120,6 @@ pub extern "C" fn nv_turn(
         return BAD_NUMBERS;
     }
     let answer = turn::turn(keys, control, array, cache, page, allowance);
-    tell(answer, numbers)
-}
-
-#[unsafe(no_mangle)]
-pub extern "C" fn nv_park(
-    keys: &[u8],
-    control: &mut [u8],
-    array: &mut [u8],
-    cache: &mut [u8],
-    allowance: u64,
-    numbers: &mut [u8],
-) -> u32
-    ensures value { result ≡ code_for_c numbers.old (park_of keys.now allowance
-        (buffers array.old control.old cache.old)).answer }
-    ensures numbers_after { numbers.new ≡ buffer_for_c numbers.old (park_of keys.now allowance
-        (buffers array.old control.old cache.old)).answer }
-    ensures cache_after { buffers array.new control.new cache.new
-        ≡ left_for_c numbers.old (buffers array.old control.old cache.old)
-        (park_of keys.now allowance (buffers array.old control.old cache.old)).after }
-{
-    if numbers.len() != 24 {
-        return BAD_NUMBERS;
-    }
-    let answer = parking::park(keys, control, array, cache, allowance);
     tell(answer, numbers)
 }
 

@@ -19,10 +19,10 @@ use Rattle.words.proofs.Parts.{part-part, length_part, length-put, below_put}
 use Rattle.words.proofs.Puts.{get_d_part, part-put-same, part-put-before, part-put-after}
 use Rattle.words.proofs.Zeros.{below-zeros, number-zeros}
 use Rattle.memory_map.specs.Map.{slots, cell_of, nodes, array_length, InMap, Item}
-use Rattle.memory_map.proofs.Laws.{cell-within, nodes-top}
+use Rattle.memory_map.proofs.Laws.{cell-within}
 use Rattle.slot_map.specs.Slots.{cache_length, slot_of, level_of, belongs}
 use Rattle.memory_map.specs.Map.Item.{node}
-use Rattle.slot_map.proofs.Laws.{slot-within, level-slot, level-within, belongs-node}
+use Rattle.slot_map.proofs.Laws.{slot-within, level-slot, belongs-node}
 use Rattle.cache.specs.Cache.{owner, dirty, content, with_slot, empty_cache, cell_content, from, cache_owners, top_slot, stray, any_owner}
 use Rattle.cache.specs.Cache.{missing_top, or_else, bad_slot, flags_formed, is_nothing, formed, holds, current}
 use Rattle.cache.proofs.Owners.{place-empty, place-filled, flag-empty, flag-filled}
@@ -292,38 +292,20 @@ facts-formed h c f =
     fine t p zero e = flag-empty (owner c t) (dirty c t) e ∙ le-leb (dirty c t) 0 (omega (arith, f.clean t p e))
     fine t p (suc i) e = flag-filled (owner c t) (dirty c t) (λ z. omega arith) ∙ le-leb (dirty c t) 1 (f.flag t p)
 
--- a formed cache stays formed when a slot changes, if its owners do
-formed-changed : (h : ℕ) (c : List ℕ) (sized : length c ≡ cache_length h) (s : ℕ) (within : s < slots h) (o d : ℕ) (b : List ℕ)
-    (full : length b ≡ 64)
-    → o < 2 ^ 64 → d ≤ 1 → (o ≡ 0 → d ≡ 0) → Owned h (owner (with_slot c s o d b)) → Formed h c → Formed h (with_slot c s o d b)
-formed-changed h c sized s within o d b full small flag idle owners f =
-    record { owners = owners; flag = λ t p. few t p (ℕ_discrete t s); clean = λ t p z. clean t p z (ℕ_discrete t s) }
-  where
-    new : List ℕ
-    new = with_slot c s o d b
-
-    few : (t : ℕ) → t < slots h → Dec (t ≡ s) → dirty new t ≤ 1
-    few t p (yes e) = rw (e, dirty-same h c sized s within o d b full) flag
-    few t p (no e) = rw (dirty-other h c sized s within o d b full t e) (f.flag t p)
-
-    clean : (t : ℕ) → t < slots h → owner new t ≡ 0 → Dec (t ≡ s) → dirty new t ≡ 0
-    clean t p z (yes e) =
-        ap (dirty new) e ∙ dirty-same h c sized s within o d b full
-        ∙ idle (sym (owner-same h c sized s within o d b full small) ∙ ap (owner new) (sym e) ∙ z)
-    clean t p z (no e) =
-        dirty-other h c sized s within o d b full t e ∙ f.clean t p (sym (owner-other h c sized s within o d b full t e) ∙ z)
-
--- so when a slot takes a node that belongs there, if the top's slot is filled or is this one
+-- a formed cache stays formed when a slot takes a node that belongs there, if the top's slot is filled or is this one
 pub formed-with : (h : ℕ) (c : List ℕ) (sized : length c ≡ cache_length h) (s : ℕ) (within : s < slots h) (i d : ℕ) (b : List ℕ)
     (full : length b ≡ 64)
     → suc i < 2 ^ 64 → belongs h s (suc i) ≡ true → d ≤ 1 → (owner c (top_slot h) ≡ 0 → s ≡ top_slot h) → Formed h c
     → Formed h (with_slot c s (suc i) d b)
 formed-with h c sized s within i d b full small fits flag top f =
-    formed-changed h c sized s within (suc i) d b full small flag (λ z. absurd (omega arith))
-    (record {
-      belong = λ t j p q. belong t j p q (ℕ_discrete t s);
-      top = λ z. absurd (filled z (ℕ_discrete (top_slot h) s));
-    }) f
+    record {
+      owners = record {
+        belong = λ t j p q. belong t j p q (ℕ_discrete t s);
+        top = λ z. absurd (filled z (ℕ_discrete (top_slot h) s));
+      };
+      flag = λ t p. few t p (ℕ_discrete t s);
+      clean = λ t p z. clean t p z (ℕ_discrete t s);
+    }
   where
     new : List ℕ
     new = with_slot c s (suc i) d b
@@ -339,34 +321,14 @@ formed-with h c sized s within i d b full small fits flag top f =
     filled z (yes e) = omega (arith, same (top_slot h) e)
     filled z (no e) = e (sym (top (sym (owner-other h c sized s within (suc i) d b full (top_slot h) e) ∙ z)))
 
--- and when a slot is emptied, the top's only as the last
-pub formed-without : (h : ℕ) (c : List ℕ) (sized : length c ≡ cache_length h) (s : ℕ) (within : s < slots h) (b : List ℕ)
-    (full : length b ≡ 64)
-    → (s ≡ top_slot h → (t : ℕ) → t < slots h → (t ≡ s → ⊥) → owner c t ≡ 0) → Formed h c → Formed h (with_slot c s 0 0 b)
-formed-without h c sized s within b full last f =
-    formed-changed h c sized s within 0 0 b full (lit< tt) zero-le (λ z. refl)
-    (record {
-      belong = λ t j p q. belong t j p q (ℕ_discrete t s);
-      top = λ z t p. none z t p (ℕ_discrete t s) (ℕ_discrete s (top_slot h));
-    }) f
-  where
-    new : List ℕ
-    new = with_slot c s 0 0 b
+    few : (t : ℕ) → t < slots h → Dec (t ≡ s) → dirty new t ≤ 1
+    few t p (yes e) = rw (e, dirty-same h c sized s within (suc i) d b full) flag
+    few t p (no e) = rw (dirty-other h c sized s within (suc i) d b full t e) (f.flag t p)
 
-    gone : (t : ℕ) → t ≡ s → owner new t ≡ 0
-    gone t e = ap (owner new) e ∙ owner-same h c sized s within 0 0 b full (lit< tt)
-
-    kept : (t : ℕ) → (t ≡ s → ⊥) → owner new t ≡ owner c t
-    kept = owner-other h c sized s within 0 0 b full
-
-    belong : (t j : ℕ) → t < slots h → owner new t ≡ suc j → Dec (t ≡ s) → belongs h t (suc j) ≡ true
-    belong t j p q (yes e) = absurd (omega (arith, gone t e))
-    belong t j p q (no e) = f.owners.belong t j p (sym (kept t e) ∙ q)
-
-    none : owner new (top_slot h) ≡ 0 → (t : ℕ) → t < slots h → Dec (t ≡ s) → Dec (s ≡ top_slot h) → owner new t ≡ 0
-    none z t p (yes e) d = gone t e
-    none z t p (no e) (yes d) = kept t e ∙ last d t p e
-    none z t p (no e) (no d) = kept t e ∙ f.owners.top (sym (kept (top_slot h) (λ q. d (sym q))) ∙ z) t p
+    clean : (t : ℕ) → t < slots h → owner new t ≡ 0 → Dec (t ≡ s) → dirty new t ≡ 0
+    clean t p z (yes e) = absurd (omega (arith, same t e))
+    clean t p z (no e) =
+        dirty-other h c sized s within (suc i) d b full t e ∙ f.clean t p (sym (owner-other h c sized s within (suc i) d b full t e) ∙ z)
 
 -- ---- the empty cache
 
@@ -420,14 +382,16 @@ slot-holds h c s i f p e =
     (place.0, (place.1, owner-holds c (level_of s) i (ap (owner c) place.1 ∙ e)))
 
 -- a dirty slot of a formed cache has an owner, a node of its level
-pub dirty-owner : (h : ℕ) (c : List ℕ) (s : ℕ) → Formed h c → s < slots h → dirty c s ≡ 1
-    → (0 < owner c s) × InMap h (node (level_of s) (owner c s - 1))
+pub dirty-owner : (h : ℕ) (c : List ℕ) (l i : ℕ) → Formed h c → l ≤ h → dirty c (slot_of l i) ≡ 1
+    → (0 < owner c (slot_of l i)) × InMap h (node l (owner c (slot_of l i) - 1))
 unfolding InMap
-dirty-owner h c s f q d = go (owner c s) refl
+dirty-owner h c l i f q d = go (owner c (slot_of l i)) refl
   where
-    go : (o : ℕ) → owner c s ≡ o → (0 < o) × ((level_of s ≤ h) × (o - 1 < nodes h (level_of s)))
-    go zero e = absurd (omega (arith, f.clean s q e))
-    go (suc j) e = (omega arith, (level-within h s q, omega (arith, (slot-holds h c s j f q e).0)))
+    go : (o : ℕ) → owner c (slot_of l i) ≡ o → (0 < o) × ((l ≤ h) × (o - 1 < nodes h l))
+    go zero e = absurd (omega (arith, f.clean (slot_of l i) (slot-within h l i q) e))
+    go (suc j) e =
+        let at = (slot-holds h c (slot_of l i) j f (slot-within h l i q) e).0 in
+        (omega arith, (q, omega (arith, subst (λ (k : ℕ). j < nodes h k) (level-slot l i) at)))
 
 -- a formed cache with a filled slot holds the top
 pub top-cached : (h : ℕ) (c : List ℕ) (s i : ℕ) → Formed h c → s < slots h → owner c s ≡ suc i → holds c h 0 ≡ true
@@ -440,27 +404,6 @@ top-cached h c s i f p e = go (owner c (top_slot h)) refl
         let at : j < 8 ^ (h - level_of (top_slot h)) = (slot-holds h c (top_slot h) j f (slot-within h h 0 (le_refl h)) z).0 in
         let one : 8 ^ (h - level_of (top_slot h)) ≡ 1 = ap (λ (l : ℕ). 8 ^ (h - l)) (level-slot h 0) ∙ ap (λ (k : ℕ). 8 ^ k) (sub_self h) in
         owner-holds c h 0 (z ∙ omega arith)
-
--- the slot beside the top's is never filled: the top has its level to itself
-pub beside-top : (h : ℕ) (c : List ℕ) → 1 ≤ h → Formed h c → (s : ℕ) → top_slot h < s → s < slots h → owner c s ≡ 0
-unfolding slot_of slots
-beside-top zero c low f s above p = absurd (omega arith)
-beside-top (suc l) c low f s above p = go (owner c s) refl
-  where
-    its-slot : s ≡ slot_of (suc l) 1
-    its-slot = omega arith
-
-    level : level_of s ≡ suc l
-    level = ap level_of its-slot ∙ level-slot (suc l) 1
-
-    go : (o : ℕ) → owner c s ≡ o → owner c s ≡ 0
-    go zero e = e
-    go (suc j) e =
-        let at = slot-holds (suc l) c s j f p e in
-        let one : j < nodes (suc l) (suc l) = subst (λ (k : ℕ). j < nodes (suc l) k) level at.0 in
-        let first : j ≡ 0 = omega (arith, nodes-top (suc l)) in
-        let same : top_slot (suc l) ≡ s = ap₂ slot_of (sym level) (sym first) ∙ at.1.0 in
-        absurd (omega (arith, above))
 
 module _ (h : ℕ) (c : List ℕ) (sized : length c ≡ cache_length h) (s : ℕ) (within : s < slots h) (o d : ℕ) (b : List ℕ)
     (full : length b ≡ 64) where

@@ -1,6 +1,5 @@
--- The allowance rule, for read, write, turn, parking and recovery: no call makes more stores than it is allowed, one is cut exactly where
--- it is allowed fewer than it makes when allowed enough, with just that number, and otherwise the allowance changes nothing. Assumes
--- nothing.
+-- The allowance rule, for read, write, turn and recovery: no call makes more stores than it is allowed, one is cut exactly where it is
+-- allowed fewer than it makes when allowed enough, with just that number, and otherwise the allowance changes nothing. Assumes nothing.
 use mathlib.Core.Path.{◌≡◌, refl, sym, ap, ◌∙◌, subst}
 use mathlib.Core.Logic.{⊎_elim}
 use mathlib.Core.Bool.{Bool, true, false, cond}
@@ -14,7 +13,6 @@ use Rattle.words.proofs.Order.{lt-or-ge}
 use Rattle.answer.specs.declared.Answer.{Answer}
 use Rattle.answer.specs.declared.Answer.TheVariants.{Done, Blank, Cut, Refused}
 use Rattle.answer.specs.Answer.{stores_of}
-use Rattle.memory_map.specs.Map.{slots}
 use Rattle.counter.specs.Counter.{major}
 use Rattle.control.specs.Control.{Cell, family, depth, root}
 use Rattle.cache.specs.declared.Found.{Found}
@@ -30,7 +28,6 @@ use Rattle.calls.specs.Write.{write_stores, written_cache, write_loaded, write_p
 use Rattle.calls.specs.Turn.{turn_refusal, block_of, turn_places, bad_line, turn_batches, stores_for, turned_cache, turn_checked}
 use Rattle.calls.specs.Turn.{turn_loaded, turn_path}
 use Rattle.calls.specs.Turn.{page_path, turn_judged, turn}
-use Rattle.calls.specs.Park.{park_refusal, park_stores, park_judged, park}
 use Rattle.calls.specs.Recovery.{Forwarded, so_far, failed, rebuild_blocks, rebuild_nodes, recovery_refusal}
 use Rattle.calls.specs.Recovery.{recover_root, recover_rebuilt, recover_shadow, recover_media, recover_judged, recover}
 
@@ -191,20 +188,6 @@ module _ (keys : List ℕ) (p : ℕ) (m : Module) where
 
   pub turn-limited : Limited (λ a. turn keys p a m)
   turn-limited = turn-judged (turn_refusal keys p m)
-
--- ---- parking
-
-module _ (keys : List ℕ) (m : Module) where
-  park-judged : (n : ℕ) → Limited (λ a. park_judged n a m)
-  unfolding park_judged stores_of
-  park-judged zero =
-      let h = depth m.control in
-      let xs = park_stores h (root m.control) m.cache 0 (slots h) in
-      stored-limited m xs (Done (length xs) 0) (empty_cache h) refl (done-not (length xs) 0)
-  park-judged (suc n) = refused-limited m (suc n) 0 0
-
-  pub park-limited : Limited (λ a. park keys a m)
-  park-limited = park-judged (park_refusal keys m)
 
 -- ---- recovery
 

@@ -12,18 +12,18 @@ use lib.ListN.{length, take, drop}
 use lib.Seq.{take-take}
 use Rattle.words.specs.Bytes.{part}
 use Rattle.words.proofs.Digits.{Below}
-use Rattle.memory_map.specs.Map.{pages, lines, slots, cells, array_length, cell_of, InMap, Item, on_path}
+use Rattle.memory_map.specs.Map.{pages, lines, cells, array_length, cell_of, InMap, Item, on_path}
 use Rattle.memory_map.specs.Map.Item.{line, node, shadow}
 use Rattle.memory_map.proofs.Laws.{cell-injective, path-node}
-use Rattle.slot_map.specs.Slots.{slot_of, level_of}
-use Rattle.slot_map.proofs.Laws.{slot-within, level-slot}
+use Rattle.slot_map.specs.Slots.{slot_of}
+use Rattle.slot_map.proofs.Laws.{slot-within}
 use Rattle.control.specs.Control.{Cell, control_length}
 use Rattle.cache.specs.Cache.{owner, dirty, content, cell_content, holds}
 use Rattle.cache.proofs.Laws.{Formed, dirty-owner, owner-holds}
 use Rattle.journal.specs.Journal.{Store, Media, media, store_all, made, batch_stores}
 use Rattle.journal.proofs.Each.{Each, none, more, each_append, each_take}
 use Rattle.journal.proofs.Kept.{Within, Avoids, within-batch, avoids-batch, stores_apart, made_kept, Formed as Media-as-Formed}
-use Rattle.calls.specs.Path.{node_cell, shadow_cell, evicted, slot_cells}
+use Rattle.calls.specs.Path.{node_cell, shadow_cell, evicted}
 use Rattle.call_laws.specs.Walk.{node_cells, path_cells, with_path}
 use Rattle.call_laws.proofs.Loads.{Sound, Fit, cells-sound, path-few}
 use Rattle.call_laws.proofs.Loading.{path-same}
@@ -43,28 +43,23 @@ module _ (h : ℕ) (c : List ℕ) (f : Formed h c) (p : ℕ) (page : p < pages h
   other x m e q = e (cell-injective h x y m there q)
 
   node-other : (l : ℕ) → l ≤ h → Each (Other h y) (node_cells h c l (on_path p l))
-  unfolding node_cells slot_cells evicted InMap
-  node-other l q = go (holds c l (on_path p l)) refl (eqb (dirty c s) 1) refl
+  unfolding node_cells evicted InMap
+  node-other l q = go (holds c l i) refl (eqb (dirty c (slot_of l i)) 1) refl
     where
-      s : ℕ
-      s = slot_of l (on_path p l)
+      i : ℕ
+      i = on_path p l
 
-      within : s < slots h
-      within = slot-within h l (on_path p l) q
+      last : Each (Other h y) (shadow_cell h (slot_of l i) (suc i) ∷ [])
+      last = more {x = shadow_cell h (slot_of l i) (suc i)} (other (shadow (slot_of l i)) (slot-within h l i q) (no-shadow (slot_of l i))) none
 
-      former : Cell
-      former = node_cell h (level_of s) (owner c s - 1) (content c s)
-
-      last : Each (Other h y) (shadow_cell h s (suc (on_path p l)) ∷ [])
-      last = more {x = shadow_cell h s (suc (on_path p l))} (other (shadow s) within (no-shadow s)) none
-
-      go : (t : Bool) → holds c l (on_path p l) ≡ t → (u : Bool) → eqb (dirty c s) 1 ≡ u
-          → Each (Other h y) (cond t [] (cond u (former ∷ []) [] ++ (shadow_cell h s (suc (on_path p l)) ∷ [])))
+      go : (t : Bool) → holds c l i ≡ t → (u : Bool) → eqb (dirty c (slot_of l i)) 1 ≡ u
+          → Each (Other h y) (cond t [] (cond u (node_cell h l (owner c (slot_of l i) - 1) (content c (slot_of l i)) ∷ []) []
+          ++ (shadow_cell h (slot_of l i) (suc i) ∷ [])))
       go true e u d = none
       go false e true d =
-          let one = eqb-true (dirty c s) 1 d in
-          more {x = former} (other (node (level_of s) (owner c s - 1)) (dirty-owner h c s f within one).1
-          (λ z. no-owner l q e one (ap (λ (k : ℕ). node k (owner c s - 1)) (sym (level-slot l (on_path p l))) ∙ z))) last
+          let one = eqb-true (dirty c (slot_of l i)) 1 d in
+          more {x = node_cell h l (owner c (slot_of l i) - 1) (content c (slot_of l i))}
+          (other (node l (owner c (slot_of l i) - 1)) (dirty-owner h c l i f q one).1 (no-owner l q e one)) last
       go false e false d = last
 
   path-other : (n : ℕ) → n ≤ suc h → Each (Other h y) (path_cells h c p n)
@@ -92,7 +87,7 @@ module _ (h : ℕ) (c : List ℕ) (f : Formed h c) (p : ℕ) (page : p < pages h
       own j b g d z =
           let level : j ≡ l = cc in
           let index : owner c (slot_of j (on_path p j)) - 1 ≡ on_path p l = cc in
-          let some-owner = (dirty-owner h c (slot_of j (on_path p j)) f (slot-within h j (on_path p j) b) d).0 in
+          let some-owner = (dirty-owner h c j (on_path p j) f b d).0 in
           false≢true (sym g ∙ owner-holds c j (on_path p j) (omega (arith, ap (on_path p) level)))
 
 -- ---- what the stores of a batch leave

@@ -9,13 +9,12 @@ use lib.ListN.{length}
 use borrow.Author.Tests.{eq-eqb, ne_eqb, lt-leb, le-leb, lt-ltb, le-ltb, not-false, eqb-true, leb-true, leb-false, ltb-false}
 use Rattle.memory_map.specs.Map.{page_of, pages, lines, array_length}
 use Rattle.slot_map.specs.Slots.{cache_length}
-use Rattle.control.specs.Control.{control_length, depth, count, any_open_lem, is_open, other_open, valid, pending}
+use Rattle.control.specs.Control.{control_length, depth, count, is_open, other_open, valid, pending}
 use Rattle.control.proofs.Laws.{Head, valid-parts}
 use Rattle.cache.specs.Cache.{formed}
 use Rattle.calls.specs.Call.{Module, judged, length_tests, opening_tests, entry_tests, entry_refusal, access_refusal, unlike}
 use Rattle.calls.specs.Recovery.{recovery_refusal}
 use Rattle.calls.specs.Turn.{turn_refusal}
-use Rattle.calls.specs.Park.{park_refusal}
 use Rattle.calls.specs.Format.{format_refusal}
 
 pub record Passed (t : Bool) (xs : List (Bool × ℕ)) : Type 0 where
@@ -217,37 +216,6 @@ module _ (keys : List ℕ) (p : ℕ) (m : Module) where
       pub turn_on : {r : ℕ} → count m.control ≡ 0 → r ≡ judged (state_tests (other_open m.control p) m) → r ≡ turn_refusal keys p m
       unfolding turn_refusal
       turn_on z e = opened-on _ o (on _ _ _ (lt-leb _ p i) (on _ _ _ (idle-on m z) e))
-
--- of a parking, past 2 3 21 4 5: 22 23 30
-pub record ParkAccepted (keys : List ℕ) (m : Module) : Type 0 where
-  pub opening : Opened keys m
-  pub idle : count m.control ≡ 0
-  pub shaped : formed (depth m.control) m.cache ≡ true
-  pub closed : any_open_lem m.control ≡ false
-
-module _ (keys : List ℕ) (m : Module) where
-  pub park-accepted : park_refusal keys m ≡ 0 → ParkAccepted keys m
-  unfolding park_refusal
-  park-accepted e =
-      let o = opened keys m _ e in
-      let r = passed (pending m.control) 21 _ o.1 in
-      let s = state-passed (any_open_lem m.control) m r.rest in
-      record { opening = o.0; idle = idle-of m r.test; shaped = s.0; closed = s.1 }
-
-  -- a refusal among the first tests
-  pub park-first : {n : ℕ} → n ≡ recovery_refusal keys m → (n ≡ 0 → ⊥) → n ≡ park_refusal keys m
-  unfolding recovery_refusal park_refusal
-  park-first e q = judged-front (opening_tests keys m) _ e q
-
-  -- past them: 22, and what is last
-  module _ (o : Opened keys m) where
-    pub park-pending : (count m.control ≡ 0 → ⊥) → 22 ≡ park_refusal keys m
-    unfolding park_refusal
-    park-pending q = opened-on _ o (here _ _ _ (lt-ltb 0 (count m.control) (omega arith)))
-
-    pub park-on : {r : ℕ} → count m.control ≡ 0 → r ≡ judged (state_tests (any_open_lem m.control) m) → r ≡ park_refusal keys m
-    unfolding park_refusal
-    park-on z e = opened-on _ o (on _ _ _ (idle-on m z) e)
 
 pub record Formattable (keys : List ℕ) (h f : ℕ) (m : Module) : Type 0 where
   pub low : 1 ≤ h

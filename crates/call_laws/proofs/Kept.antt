@@ -16,8 +16,8 @@ use Rattle.words.proofs.Parts.{length-put, below_put}
 use Rattle.tag.specs.Tag.{node_tag}
 use Rattle.memory_map.proofs.Laws.{cells-small, page-inside}
 use Rattle.slot_map.proofs.Laws.{slot-within}
-use Rattle.control.specs.Control.{Cell, control_length, family, depth, root, in_map_lem}
-use Rattle.cache.specs.Cache.{content}
+use Rattle.control.specs.Control.{Cell, control_length, family, depth, root, in_map}
+use Rattle.cache.specs.Cache.{formed, content}
 use Rattle.cache.proofs.Laws.{formed-facts, length-with, below-with, content-length, content-below, slot-room}
 use Rattle.journal.specs.Journal.{Store, store_all, made, is_cut, batch_stores}
 use Rattle.journal.proofs.Each.{Each, none, more}
@@ -61,8 +61,8 @@ wholes h p none = none
 wholes h p (more {x = x} s ss) =
     more {x = x} (record { word = omega (arith, s.inside, cells-small h p); size = s.size; bytes = s.bytes }) (wholes h p ss)
 
-pub in_map_lem : (h : ℕ) {xs : List Cell} → Each (Sound h) xs → in_map_lem (cells h) xs ≡ true
-unfolding in_map_lem
+pub in_map_lem : (h : ℕ) {xs : List Cell} → Each (Sound h) xs → in_map (cells h) xs ≡ true
+unfolding in_map
 in_map_lem h none = refl
 in_map_lem h (more {x = x} s ss) = rw (lt-ltb x.number (cells h) s.inside) (in_map_lem h ss)
 
@@ -93,8 +93,7 @@ module _ {h : ℕ} {m : Module} (w : Buffers h m) where
   pub media-formed : Media-as-Formed (length m.array) (media_of m)
   media-formed = record { array-length = refl; control_length = control_length; array-bytes = bytes.array; control-bytes = bytes.control }
 
-  pub batch-within : {xs : List Cell} (r : ℕ) → Each (Sound h) xs → length xs ≤ 8
-      → Each (Within (length m.array / 72)) (batch_stores xs r)
+  batch-within : {xs : List Cell} (r : ℕ) → Each (Sound h) xs → length xs ≤ 8 → Each (Within (length m.array / 72)) (batch_stores xs r)
   batch-within r s few = rw (array-cells h (length m.array) whole) (within-batch (cells h) r (wholes h high s) (in_map_lem h s) few)
 
   pub after-stores : (a : ℕ) {xs : List Store} (c : List ℕ) → Each (Within (length m.array / 72)) xs → length c ≡ length m.cache

@@ -16,4 +16,3 @@ pub mod Storing
 pub mod Tags
 pub mod Turn
 pub mod Turned
-pub mod Parked

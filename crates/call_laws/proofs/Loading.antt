@@ -21,17 +21,8 @@ use Rattle.control.specs.Control.{Cell}
 use Rattle.cache.specs.Cache.{owner, dirty, content, with_slot, cell_content, holds, current}
 use Rattle.cache.proofs.Laws.{cell-length, length-with, owner-other, dirty-other}
 use Rattle.cache.proofs.Laws.{content-same, content-other, current-cached, current-missing}
-use Rattle.calls.specs.Path.{child_tag, node_cell, shadow_cell, evicted, slot_cells, Loaded, loaded, differs, load_node, load_levels, load_path}
+use Rattle.calls.specs.Path.{child_tag, node_cell, shadow_cell, evicted, Loaded, loaded, differs, load_node, load_levels, load_path}
 use Rattle.call_laws.specs.Walk.{expected_tag, node_cells, path_cells, with_node, with_path}
-
--- the cells by which a slot changes its owner are those of any cache that has the same there
-pub slot_same : (h : ℕ) (d c : List ℕ) (s o : ℕ) → owner d s ≡ owner c s → dirty d s ≡ dirty c s → content d s ≡ content c s
-    → slot_cells h d s o ≡ slot_cells h c s o
-unfolding slot_cells evicted
-slot_same h d c s o p q r =
-    ap (λ (x : List Cell). x ++ (shadow_cell h s o ∷ []))
-    (ap₂ {C = List Cell} (λ (f n : ℕ). cond (eqb f 1) (node_cell h (level_of s) (n - 1) (content d s) ∷ []) []) q p
-    ∙ ap (λ (b : List ℕ). cond (eqb (dirty c s) 1) (node_cell h (level_of s) (owner c s - 1) b ∷ []) []) r)
 
 -- the content of the array's node of level l on the path
 abbrev stored_node : ℕ → List ℕ → ℕ → ℕ → List ℕ
@@ -73,8 +64,12 @@ module _ (h : ℕ) (high : h ≤ 3) (keys a : List ℕ) (whole : length a ≡ ar
   unfolding holds
   holds-like s l i q = ap (λ (o : ℕ). eqb o (suc i)) (s.owners l i q)
 
-  slot-like : {n : ℕ} {d : List ℕ} → Like n d → (l i o : ℕ) → l < n → slot_cells h d (slot_of l i) o ≡ slot_cells h c (slot_of l i) o
-  slot-like {n} {d} s l i o q = slot_same h d c (slot_of l i) o (s.owners l i q) (s.flags l i q) (s.contents l i q)
+  evicted-like : {n : ℕ} {d : List ℕ} → Like n d → (l i : ℕ) → l < n → evicted h d l (slot_of l i) ≡ evicted h c l (slot_of l i)
+  unfolding evicted
+  evicted-like {n} {d} s l i q =
+      ap₂ {C = List Cell} (λ (f : ℕ) (o : ℕ). cond (eqb f 1) (node_cell h l (o - 1) (content d (slot_of l i)) ∷ []) [])
+      (s.flags l i q) (s.owners l i q)
+      ∙ ap (λ (b : List ℕ). cond (eqb (dirty c (slot_of l i)) 1) (node_cell h l (owner c (slot_of l i) - 1) b ∷ []) []) (s.contents l i q)
 
   module _ (l : ℕ) (lh : l ≤ h) where
     inside : InMap h (node l (on_path p l))
@@ -148,12 +143,12 @@ module _ (h : ℕ) (high : h ≤ 3) (keys a : List ℕ) (whole : length a ≡ ar
 
     -- the cells of the node, where it is missing
     abbrev y : List Cell
-    y = slot_cells h c (slot_of l i) (suc i)
+    y = evicted h c l (slot_of l i) ++ (shadow_cell h (slot_of l i) (suc i) ∷ [])
 
     node-load : (t : ℕ) → t ≡ expected_tag h a c r p l
         → load_node h keys a d l i t ≡ cond (holds c l i) (loaded d []) (cond (right l) (loaded (loaded_into l lh d) y) (differs l i))
     unfolding load_node
-    node-load t e = rw (holds-like s l i (le_refl (suc l)), e, slot-like s l i (suc i) (le_refl (suc l)))
+    node-load t e = rw (holds-like s l i (le_refl (suc l)), e, evicted-like s l i (le_refl (suc l)))
 
     with-node : with_node h a d l i ≡ cond (holds c l i) d (loaded_into l lh d)
     unfolding with_node

@@ -1,7 +1,7 @@
 -- Loading a path: the cache stays formed, each cell of the batch is a whole cell of the map, and they are few. Assumes nothing.
 use mathlib.Core.Path.{◌≡◌, refl, sym, ap, ap₂, ◌∙◌, subst}
 use mathlib.Core.Bool.{Bool, true, false, cond}
-use mathlib.Core.List.{List, [], ◌∷◌}
+use mathlib.Core.List.{List, [], ◌∷◌, ◌++◌}
 use mathlib.Core.Option.{Option, none as nothing, some}
 use Prim.Native.Nat.{ℕ, zero, suc, ◌+◌, ◌-◌, ◌*◌, ◌^◌, ◌≤◌, ◌<◌, zero-le}
 use native.Mathlib.Nat.{le_refl, div-eq_of_lt, suc_inj}
@@ -13,7 +13,7 @@ use borrow.Author.Tests.{ne_eqb, eqb-true}
 use Rattle.words.specs.Bytes.{to_le}
 use Rattle.words.proofs.Digits.{Below, below-replicate, below-append, below-digits, length_digits}
 use Rattle.memory_map.specs.Map.{pages, nodes, slots, cells, array_length, cell_of, InMap, on_path}
-use Rattle.slot_map.specs.Slots.{cache_length, slot_of, level_of}
+use Rattle.slot_map.specs.Slots.{cache_length, slot_of}
 use Rattle.memory_map.specs.Map.Item.{node, shadow}
 use Rattle.memory_map.proofs.Laws.{cell-within, cells-small, level-shadow, shadow-cells, nodes-top, path-within}
 use Rattle.slot_map.proofs.Laws.{slot-within, node-belongs}
@@ -22,7 +22,7 @@ use Rattle.cache.specs.Cache.{owner, dirty, content, with_slot, cell_content, ho
 use Rattle.cache.proofs.Laws.{Formed, top-cached, dirty-owner, formed-with, length-with, owner-same, owner-other}
 use Rattle.cache.proofs.Laws.{below-with, holds-owner, content-length, content-below, cell-length, cell_below, slot-room}
 use Rattle.journal.proofs.Each.{Each, none, more, each_append}
-use Rattle.calls.specs.Path.{node_cell, shadow_cell, evicted, slot_cells, Loaded, loaded, differs, load_path}
+use Rattle.calls.specs.Path.{node_cell, shadow_cell, evicted, Loaded, loaded, differs, load_path}
 use Rattle.call_laws.specs.Walk.{missing, node_cells, path_cells, with_node, with_path}
 use Rattle.call_laws.proofs.Loading.{first_wrong, outcome, load-path}
 
@@ -59,51 +59,43 @@ sound-shadow h s o p =
       bytes = below-append (to_le 8 o) (replicate 64 0) (below-digits 256 8 o (lit< tt)) (zeros-bytes 64);
     }
 
--- ---- the cells of a slot whose owner changes
-
-module _ (h : ℕ) (c : List ℕ) (s o : ℕ) where
-  evicted-few : length (evicted h c s) ≤ 1
-  unfolding evicted
-  evicted-few = go (eqb (dirty c s) 1)
-    where
-      go : (t : Bool) → length (cond t (node_cell h (level_of s) (owner c s - 1) (content c s) ∷ []) []) ≤ 1
-      go true = le_refl 1
-      go false = zero-le
-
-  evicted-clean : dirty c s ≡ 0 → length (evicted h c s) ≡ 0
-  unfolding evicted
-  evicted-clean e = rw (ne_eqb (dirty c s) 1 (λ q. omega arith))
-
-  slot-length : length (slot_cells h c s o) ≡ length (evicted h c s) + 1
-  unfolding slot_cells
-  slot-length = length-append (evicted h c s) (shadow_cell h s o ∷ [])
-
-  pub slot-some : 1 ≤ length (slot_cells h c s o)
-  slot-some = omega (arith, slot-length)
-
-  pub slot-few : length (slot_cells h c s o) ≤ 2
-  slot-few = omega (arith, slot-length, evicted-few)
-
-  slot-lean : dirty c s ≡ 0 → length (slot_cells h c s o) ≤ 1
-  slot-lean e = omega (arith, slot-length, evicted-clean e)
-
-  pub slot-sound : Fit h c → s < slots h → Each (Sound h) (slot_cells h c s o)
-  unfolding slot_cells evicted
-  slot-sound fit within = each_append (go (eqb (dirty c s) 1) refl) (more (sound-shadow h s o within) none)
-    where
-      go : (t : Bool) → eqb (dirty c s) 1 ≡ t
-          → Each (Sound h) (cond t (node_cell h (level_of s) (owner c s - 1) (content c s) ∷ []) [])
-      go true e =
-          more (sound-node h (level_of s) (owner c s - 1) (content c s) (dirty-owner h c s fit.formed within (eqb-true _ _ e)).1
-          (content-length c s (slot-room h s c fit.sized within)) (content-below c s fit.bytes)) none
-      go false e = none
-
 -- ---- the cells of a node
 
 module _ (h : ℕ) (c : List ℕ) (fit : Fit h c) (l i : ℕ) (lh : l ≤ h) where
+  in-slots : slot_of l i < slots h
+  in-slots = slot-within h l i lh
+
+  evicted-sound : Each (Sound h) (evicted h c l (slot_of l i))
+  unfolding evicted
+  evicted-sound = go (eqb (dirty c (slot_of l i)) 1) refl
+    where
+      go : (t : Bool) → eqb (dirty c (slot_of l i)) 1 ≡ t
+          → Each (Sound h) (cond t (node_cell h l (owner c (slot_of l i) - 1) (content c (slot_of l i)) ∷ []) [])
+      go true e =
+          more (sound-node h l (owner c (slot_of l i) - 1) (content c (slot_of l i))
+          (dirty-owner h c l i fit.formed lh (eqb-true _ _ e)).1
+          (content-length c (slot_of l i) (slot-room h (slot_of l i) c fit.sized in-slots))
+          (content-below c (slot_of l i) fit.bytes)) none
+      go false e = none
+
+  evicted-few : length (evicted h c l (slot_of l i)) ≤ 1
+  unfolding evicted
+  evicted-few = go (eqb (dirty c (slot_of l i)) 1)
+    where
+      go : (t : Bool) → length (cond t (node_cell h l (owner c (slot_of l i) - 1) (content c (slot_of l i)) ∷ []) []) ≤ 1
+      go true = le_refl 1
+      go false = zero-le
+
+  evicted-clean : dirty c (slot_of l i) ≡ 0 → length (evicted h c l (slot_of l i)) ≡ 0
+  unfolding evicted
+  evicted-clean e = rw (ne_eqb (dirty c (slot_of l i)) 1 (λ q. omega arith))
+
   -- where it is missing
   abbrev y : List Cell
-  y = slot_cells h c (slot_of l i) (suc i)
+  y = evicted h c l (slot_of l i) ++ (shadow_cell h (slot_of l i) (suc i) ∷ [])
+
+  y-length : length y ≡ length (evicted h c l (slot_of l i)) + 1
+  y-length = length-append (evicted h c l (slot_of l i)) (shadow_cell h (slot_of l i) (suc i) ∷ [])
 
   node-sound : Each (Sound h) (node_cells h c l i)
   unfolding node_cells
@@ -111,7 +103,7 @@ module _ (h : ℕ) (c : List ℕ) (fit : Fit h c) (l i : ℕ) (lh : l ≤ h) whe
     where
       go : (t : Bool) → Each (Sound h) (cond t [] y)
       go true = none
-      go false = slot-sound h c (slot_of l i) (suc i) fit (slot-within h l i lh)
+      go false = each_append evicted-sound (more (sound-shadow h (slot_of l i) (suc i) in-slots) none)
 
   node-few : length (node_cells h c l i) ≤ 2
   unfolding node_cells
@@ -119,7 +111,7 @@ module _ (h : ℕ) (c : List ℕ) (fit : Fit h c) (l i : ℕ) (lh : l ≤ h) whe
     where
       go : (t : Bool) → length (cond t [] y) ≤ 2
       go true = zero-le
-      go false = slot-few h c (slot_of l i) (suc i)
+      go false = omega (arith, y-length, evicted-few)
 
   node-lean : dirty c (slot_of l i) ≡ 0 → length (node_cells h c l i) ≤ 1
   unfolding node_cells
@@ -127,7 +119,7 @@ module _ (h : ℕ) (c : List ℕ) (fit : Fit h c) (l i : ℕ) (lh : l ≤ h) whe
     where
       go : (t : Bool) → length (cond t [] y) ≤ 1
       go true = zero-le
-      go false = slot-lean h c (slot_of l i) (suc i) e
+      go false = omega (arith, y-length, evicted-clean e)
 
 -- ---- the cells of a path
 
@@ -295,8 +287,10 @@ module _ (h : ℕ) (a c : List ℕ) (p : ℕ) where
   level-missing : (l : ℕ) → holds c l (on_path p l) ≡ false → 0 < length (path_cells h c p (suc l))
   unfolding path_cells node_cells
   level-missing l e =
-      let y = slot_cells h c (slot_of l (on_path p l)) (suc (on_path p l)) in
-      rw e (omega (arith, length-append y (path_cells h c p l), slot-some h c (slot_of l (on_path p l)) (suc (on_path p l))))
+      let i = on_path p l in
+      let x = evicted h c l (slot_of l i) in
+      let s = shadow_cell h (slot_of l i) (suc i) ∷ [] in
+      rw e (omega (arith, length-append (x ++ s) (path_cells h c p l), length-append x s))
 
   pub some-missing : (n : ℕ) → (missing c p n ≡ 0 → ⊥) → 0 < length (path_cells h c p n)
   unfolding missing

@@ -14,7 +14,7 @@ use Rattle.candidates.specs.declared.Choice.TheVariants.{None, Only, Several}
 use Rattle.control.specs.Control.{is_open}
 use Rattle.cache.specs.Cache.{with_slot, cell_bytes, cell_content}
 use Rattle.journal.specs.Journal.{Media}
-use Rattle.calls.specs.Recovery.{Step, to, bad, by_phase, by_choice, phase_byte, Source, step_of, line_step_lem, source_of}
+use Rattle.calls.specs.Recovery.{Step, to, bad, by_phase, by_choice, phase_byte, Source, step_of, line_step, source_of}
 use Rattle.calls.specs.Recovery.{Forwarded, so_far, failed, onward, stepped}
 use Rattle.calls.specs.Recovery.{forward_from, forward_page, rebuild_block, rebuild_slot, rebuild_blocks}
 
@@ -47,7 +47,7 @@ choice-step f None = inl refl
 choice-step f (Only v) = tt
 choice-step f Several = inr refl
 
-pub line_step_lem : (x : Source) (n s : ℕ) → StepIs (StepRefusal x.family) (line_step_lem x n s)
+pub line_step_lem : (x : Source) (n s : ℕ) → StepIs (StepRefusal x.family) (line_step x n s)
 unfolding step_of
 line_step_lem x n s = go x.family
   where
@@ -69,15 +69,15 @@ module _ (P : ℕ → Type 0) where
   step_end (to v) n s ms sum e = tt
   step_end (bad k) n s ms sum e = e
 
-  lines_end : (x : Source) → ((n s : ℕ) → StepIs P (line_step_lem x n s)) → (ss : List ℕ) (n : ℕ) (ms : List ℕ) (sum : ℕ)
+  lines_end : (x : Source) → ((n s : ℕ) → StepIs P (line_step x n s)) → (ss : List ℕ) (n : ℕ) (ms : List ℕ) (sum : ℕ)
       → EndIs P (forward_from x n ss ms sum)
   unfolding forward_from EndIs
   lines_end x steps [] n ms sum = tt
   lines_end x steps (s ∷ ss) n ms sum =
-      onward-end (stepped (line_step_lem x n s) n s ms sum) (forward_from x (suc n) ss) (step_end (line_step_lem x n s) n s ms sum (steps n s))
+      onward-end (stepped (line_step x n s) n s ms sum) (forward_from x (suc n) ss) (step_end (line_step x n s) n s ms sum (steps n s))
       (lines_end x steps ss (suc n))
 
-  page-end : (k : List ℕ) (x : Source) → ((n s : ℕ) → StepIs P (line_step_lem x n s)) → (p : ℕ) (ss : List ℕ) (sum : ℕ)
+  page-end : (k : List ℕ) (x : Source) → ((n s : ℕ) → StepIs P (line_step x n s)) → (p : ℕ) (ss : List ℕ) (sum : ℕ)
       → EndIs P (forward_page k x p ss sum)
   unfolding forward_page EndIs
   page-end k x steps p ss sum = go (is_open k p)
@@ -86,7 +86,7 @@ module _ (P : ℕ → Type 0) where
       go true = tt
       go false = lines_end x steps ss (64 * p) [] sum
 
-  module _ (h : ℕ) (keys : List ℕ) (d : Media) (steps : (ma n s : ℕ) → StepIs P (line_step_lem (source_of keys d ma) n s)) where
+  module _ (h : ℕ) (keys : List ℕ) (d : Media) (steps : (ma n s : ℕ) → StepIs P (line_step (source_of keys d ma) n s)) where
     slot-end : (c : List ℕ) (sum s o : ℕ) → EndIs P (rebuild_slot h keys d c sum s o)
     unfolding rebuild_slot rebuild_block EndIs
     slot-end c sum s zero = tt

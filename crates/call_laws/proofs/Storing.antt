@@ -4,14 +4,12 @@ use mathlib.Core.Bool.{Bool, true, false, cond}
 use mathlib.Core.List.{List}
 use Prim.Native.Nat.{ℕ, min, ◌≤◌, ◌<◌}
 use native.Mathlib.Omega.{arith}
-use borrow.Author.Tests.{leb-true, leb-false}
 use lib.ListN.{length, length-take}
 use Rattle.answer.specs.declared.Answer.{Answer}
 use Rattle.answer.specs.declared.Answer.TheVariants.{Done, Cut}
-use Rattle.journal.specs.Journal.{Store, Media, media, store_all, made, is_cut, Stored, Makes}
-use Rattle.journal.specs.declared.Made.{Made}
+use Rattle.journal.specs.Journal.{Store, Media, media, store_all, made, is_cut, Stored}
 use Rattle.journal.proofs.Laws.{less-cut, enough-whole}
-use Rattle.calls.specs.Call.{Module, Called, media_of, with_media, buffers, ended, storing}
+use Rattle.calls.specs.Call.{Module, Called, media_of, with_media, ended, storing}
 
 -- a call that is cut, or ends with an answer
 abbrev ends : ℕ → Module → List Store → List ℕ → Bool → Answer → Called
@@ -53,22 +51,6 @@ module _ (allowance : ℕ) (m : Module) (xs : List Store) (answer : Answer) (c a
   storing-done p =
       ap (λ (d : Media). record { answer = answer; after = with_media d c }) s.left
       ∙ sym (storing-is allowance m xs answer c false (enough-whole allowance xs (omega (arith, few))))
-
--- ---- from the stores that were made, and whether they are all
-
-module _ {allowance : ℕ} {xs : List Store} {a k a' k' : List ℕ} {told : Made} (m : Makes allowance xs (media a k) (media a' k') told)
-    (c d : List ℕ) where
-  pub makes-cut : told.whole ≡ false → ended (Cut told.stores) a' k' c ≡ storing allowance (buffers a k c) xs (Done (length xs) 0) d
-  makes-cut e =
-      storing-cut allowance (buffers a k c) xs (Done (length xs) 0) d a' k' told.stores m.stored
-      (leb-false _ _ (sym m.all ∙ e))
-
-  pub makes-done : told.whole ≡ true → ended (Done told.stores 0) a' k' d ≡ storing allowance (buffers a k c) xs (Done (length xs) 0) d
-  makes-done e =
-      let b = buffers a k c in
-      let whole : length xs ≤ told.stores = leb-true _ _ (sym m.all ∙ e) in
-      ap (λ (i : ℕ). ended (Done i 0) a' k' d) (all_told allowance b xs (Done (length xs) 0) d a' k' told.stores m.stored whole)
-      ∙ storing-done allowance b xs (Done (length xs) 0) d a' k' told.stores m.stored whole
 
 -- ---- from the answer done, or another: what another answer in the place of done would give
 

@@ -1,14 +1,14 @@
 -- The path of a page seen in the cache before anything is loaded: which nodes are missing, the tags they must carry, the cells that loading
 -- them stores and the cache with them. For laws and for the contracts of steps; what a call leaves is said by the definitions of the calls.
 -- Assumes nothing.
-use Rattle.std.specs.Prelude.{ℕ, zero, suc, ◌+◌, cond, List, [], ◌++◌, eqb}
+use Rattle.std.specs.Prelude.{ℕ, zero, suc, ◌+◌, cond, List, [], ◌∷◌, ◌++◌, eqb}
 use Rattle.memory_map.specs.Map.{on_path, cell_of}
 use Rattle.memory_map.specs.Map.Item.{node}
 use Rattle.slot_map.specs.Slots.{slot_of}
 use Rattle.control.specs.Control.{Cell}
 use Rattle.cache.specs.Cache.{with_slot, cell_content, holds, current}
 use Rattle.journal.specs.Journal.{Store, batch_stores}
-use Rattle.calls.specs.Path.{child_tag, slot_cells}
+use Rattle.calls.specs.Path.{child_tag, shadow_cell, evicted}
 
 -- how many of the n lowest nodes of the path the cache lacks
 unfoldable pub missing : List ℕ → ℕ → ℕ → ℕ
@@ -21,7 +21,7 @@ expected_tag h a c r p l = cond (eqb l h) r (child_tag (current h a c (suc l) (o
 
 -- the cells that loading node i of level l stores where it is missing, and those of the n lowest levels of a path, top first
 unfoldable pub node_cells : ℕ → List ℕ → ℕ → ℕ → List Cell
-node_cells h c l i = cond (holds c l i) [] (slot_cells h c (slot_of l i) (suc i))
+node_cells h c l i = cond (holds c l i) [] (evicted h c l (slot_of l i) ++ (shadow_cell h (slot_of l i) (suc i) ∷ []))
 
 unfoldable pub path_cells : ℕ → List ℕ → ℕ → ℕ → List Cell
 path_cells h c p zero = []

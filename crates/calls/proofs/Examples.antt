@@ -1,6 +1,6 @@
 -- Written by tests/test_examples.py: a write with an eviction and a stop-loss store, outputs of reads, the batches of a turn and of a
 -- resumed one, what a recovery rebuilds, where a page is open too, the line that ends one, the step of a line without a phase byte,
--- refusals in sequence, a list of dirty pages, and a parking. Assumes nothing.
+-- refusals in sequence, and a list of dirty pages. Assumes nothing.
 use mathlib.Core.Path.{◌≡◌, refl}
 use mathlib.Core.List.{List, [], ◌∷◌, ◌++◌, map}
 use Prim.Native.Nat.{ℕ, ◌*◌}
@@ -10,15 +10,13 @@ use Rattle.candidates.specs.declared.Choice.TheVariants.{None, Several}
 use Rattle.answer.specs.declared.Answer.{Answer}
 use Rattle.answer.specs.declared.Answer.TheVariants.{Done, Blank, Cut, Refused}
 use Rattle.cache.specs.Cache.{empty_cache}
-use Rattle.control.specs.Control.{Cell, root as root_of}
-use Rattle.journal.specs.Journal.{Store, media}
-use Rattle.journal.specs.Journal.Store.{stage, commit, commit_turn, cell, root, clear}
+use Rattle.control.specs.Control.{Cell}
+use Rattle.journal.specs.Journal.{media}
 use Rattle.calls.specs.Call.{Module, Called, access_refusal}
 use Rattle.calls.specs.Read.{Reading, read}
 use Rattle.calls.specs.Write.{write}
 use Rattle.calls.specs.Turn.{Batch, turn_refusal, turn_front, turn_batches, batches_of, before_last}
-use Rattle.calls.specs.Park.{park_refusal, park_stores, park, before_emptied}
-use Rattle.calls.specs.Recovery.{to, bad, by_choice, line_step_lem, so_far, failed, rebuild_blocks, rebuild_nodes, recover_rebuilt}
+use Rattle.calls.specs.Recovery.{to, bad, by_choice, line_step, so_far, failed, rebuild_blocks, rebuild_nodes, recover_rebuilt}
 use Rattle.calls.specs.DirtyPages.{dirty_pages}
 use Rattle.calls.proofs.Run.{run}
 use Rattle.calls.proofs.Sparse.{sparse, up_to}
@@ -35,19 +33,6 @@ seen n c = record { answer = c.answer; cache = c.after.cache; cell = part c.afte
 -- what a read answers, and what it leaves in its output
 given : Reading → Answer × List ℕ
 given r = (r.called.answer, r.output)
-
--- what a call answers, and the root and the cache that it leaves
-left : Called → Answer × ℕ × List ℕ
-left c = (c.answer, root_of c.after.control, c.after.cache)
-
--- a store in numbers: a cell staged, a commit, a cell, the root, count 0
-in_numbers : Store → List ℕ
-in_numbers (stage j c) = 0 ∷ j ∷ c.number ∷ c.bytes
-in_numbers (commit n r) = 1 ∷ n ∷ r ∷ []
-in_numbers (commit_turn n r s) = 5 ∷ n ∷ r ∷ s
-in_numbers (cell c) = 2 ∷ c.number ∷ []
-in_numbers (root r) = 3 ∷ r ∷ []
-in_numbers clear = 4 ∷ []
 
 -- the cell numbers of each batch, and its section
 shapes : List Batch → List (List ℕ × List ℕ)
@@ -138,15 +123,6 @@ open_control =
     )
     ∷ (400, 1 ∷ 0 ∷ 0 ∷ 0 ∷ 0 ∷ 0 ∷ 0 ∷ 0 ∷ 0 ∷ 6 ∷ [])
     ∷ (7, [])
-    ∷ [])
-
-slots_to_park : List ℕ
-slots_to_park =
-    sparse ((0, 1 ∷ 0 ∷ 0 ∷ 0 ∷ 0 ∷ 0 ∷ 0 ∷ 0 ∷ 1 ∷ 129 ∷ [])
-    ∷ (63, 2 ∷ 0 ∷ 0 ∷ 0 ∷ 0 ∷ 0 ∷ 0 ∷ 0 ∷ 0 ∷ 7 ∷ [])
-    ∷ (72, 9 ∷ [])
-    ∷ (136, 1 ∷ 0 ∷ 0 ∷ 0 ∷ 0 ∷ 0 ∷ 0 ∷ 0 ∷ 1 ∷ 5 ∷ [])
-    ∷ (136, [])
     ∷ [])
 
 written :
@@ -325,7 +301,7 @@ failing-told = refl
 chosen :
     by_choice None
     ∷ by_choice Several
-    ∷ line_step_lem (record {
+    ∷ line_step (record {
       family = 1;
       keys = up_to 48 0;
       array = replicate 72 0 ++ (sparse ((
@@ -380,65 +356,3 @@ listed :
     }
 unfolding run sparse up_to start
 listed = refl
-
-parking :
-    map in_numbers (park_stores 1 (root_of start.control) slots_to_park 0 6)
-    ≡ (0 ∷ 0 ∷ 512 ∷ sparse ((0, 129 ∷ [])
-    ∷ (71, [])
-    ∷ []))
-    ∷ (0 ∷ 1 ∷ 521 ∷ sparse ((72, [])
-    ∷ []))
-    ∷ (1 ∷ 2 ∷ 15326470793072215051 ∷ [])
-    ∷ (2 ∷ 512 ∷ [])
-    ∷ (2 ∷ 521 ∷ [])
-    ∷ (3 ∷ 15326470793072215051 ∷ [])
-    ∷ (4 ∷ [])
-    ∷ (0 ∷ 0 ∷ 522 ∷ sparse ((72, [])
-    ∷ []))
-    ∷ (1 ∷ 1 ∷ 15326470793072215051 ∷ [])
-    ∷ (2 ∷ 522 ∷ [])
-    ∷ (3 ∷ 15326470793072215051 ∷ [])
-    ∷ (4 ∷ [])
-    ∷ (0 ∷ 0 ∷ 520 ∷ sparse ((0, 5 ∷ [])
-    ∷ (71, [])
-    ∷ []))
-    ∷ (0 ∷ 1 ∷ 525 ∷ sparse ((72, [])
-    ∷ []))
-    ∷ (1 ∷ 2 ∷ 15326470793072215051 ∷ [])
-    ∷ (2 ∷ 520 ∷ [])
-    ∷ (2 ∷ 525 ∷ [])
-    ∷ (3 ∷ 15326470793072215051 ∷ [])
-    ∷ (4 ∷ [])
-    ∷ []
-unfolding run sparse up_to in_numbers start slots_to_park
-parking = refl
-
-parked :
-    left (park (up_to 48 0) 19 (record { array = start.array; control = start.control; cache = slots_to_park }))
-    ≡ (Done 19 0, 15326470793072215051, empty_cache 1)
-unfolding run sparse up_to left start slots_to_park
-parked = refl
-
-park-cut :
-    left (park (up_to 48 0) 18 (record { array = start.array; control = start.control; cache = slots_to_park }))
-    ≡ (Cut 18, 15326470793072215051, slots_to_park)
-unfolding run sparse up_to left start slots_to_park
-park-cut = refl
-
-before-top :
-    before_emptied 1 0 slots_to_park 4
-    ≡ 14
-unfolding run sparse up_to slots_to_park
-before-top = refl
-
-park-judged :
-    park_refusal (up_to 48 0) (record { array = start.array; control = open_control; cache = slots_to_park })
-    ≡ 30
-unfolding run sparse up_to start open_control slots_to_park
-park-judged = refl
-
-park-unformed :
-    park_refusal (up_to 48 0) (record { array = start.array; control = open_control; cache = set slots_to_park 0 9 })
-    ≡ 23
-unfolding run sparse up_to start open_control slots_to_park
-park-unformed = refl

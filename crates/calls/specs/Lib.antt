@@ -3,7 +3,6 @@ pub mod Call
 pub mod Read
 pub mod Write
 pub mod Turn
-pub mod Park
 pub mod Recovery
 pub mod Format
 pub mod DirtyPages

@@ -3,7 +3,7 @@
 use Rattle.std.specs.Prelude.{ℕ, zero, suc, ◌-◌, ◌*◌, ◌%◌, cond, List, [], ◌∷◌, ◌++◌, eqb, replicate}
 use Rattle.words.specs.Bytes.{from_le, to_le, part, put}
 use Rattle.memory_map.specs.Map.{on_path, cell_of}
-use Rattle.slot_map.specs.Slots.{slot_of, level_of}
+use Rattle.slot_map.specs.Slots.{slot_of}
 use Rattle.memory_map.specs.Map.Item.{node, shadow}
 use Rattle.tag.specs.Tag.{node_tag}
 use Rattle.control.specs.Control.{Cell}
@@ -22,12 +22,8 @@ abbrev pub shadow_cell : ℕ → ℕ → ℕ → Cell
 shadow_cell h s o = record { number = cell_of h (shadow s); bytes = to_le 8 o ++ replicate 64 0 }
 
 -- the cell of a slot's dirty former owner, if there is one
-unfoldable pub evicted : ℕ → List ℕ → ℕ → List Cell
-evicted h c s = cond (eqb (dirty c s) 1) (node_cell h (level_of s) (owner c s - 1) (content c s) ∷ []) []
-
--- the cells by which slot s gets the owner o, 0 for none: that one, then the shadow cell
-unfoldable pub slot_cells : ℕ → List ℕ → ℕ → ℕ → List Cell
-slot_cells h c s o = evicted h c s ++ (shadow_cell h s o ∷ [])
+unfoldable pub evicted : ℕ → List ℕ → ℕ → ℕ → List Cell
+evicted h c l s = cond (eqb (dirty c s) 1) (node_cell h l (owner c s - 1) (content c s) ∷ []) []
 
 -- a loaded path: the cache with it, and the batch; or the level and index of a node whose tag differs
 pub data Loaded : Type 0 where
@@ -41,7 +37,7 @@ load_node h keys a c l i t =
     let b = cell_content a (cell_of h (node l i)) in
     cond (holds c l i) (loaded c [])
     (cond (eqb (node_tag keys b l i) t)
-    (loaded (with_slot c s (suc i) 0 b) (slot_cells h c s (suc i)))
+    (loaded (with_slot c s (suc i) 0 b) (evicted h c l s ++ (shadow_cell h s (suc i) ∷ [])))
     (differs l i))
 
 -- the lowest n levels of page p's path, the highest of which has the tag t; x is the batch so far

@@ -1,1 +1,1 @@
-// The definitions of the seven calls. They stand in specs/; proofs/ runs some of them.
+// The definitions of the six calls. They stand in specs/; proofs/ runs some of them.

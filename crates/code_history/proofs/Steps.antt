@@ -1,6 +1,6 @@
--- Runs of the code. A call of one of the seven functions is its arguments, its answer and what its lent buffers hold at exit, such that
--- the function's contract holds of them: `Learnt` is what its `ensures` lines tell a caller. A step of a history is such a call, or a
--- power cut between calls. Assumes nothing.
+-- Runs of the code. A call of one of the six functions is its arguments, its answer and what its lent buffers hold at exit, such that the
+-- function's contract holds of them: `Learnt` is what its `ensures` lines tell a caller. A step of a history is such a call, or a power cut
+-- between calls. Assumes nothing.
 use Prim.Native.Nat.{ℕ}
 use mathlib.Core.List.{List, [], ◌∷◌}
 use contract.Lifetimes.{Lfts}
@@ -10,7 +10,7 @@ use borrow.Fn.Kinds.{Dens, res_t, Out, ended_of}
 use Rattle.answer.specs.declared.Answer.{Answer}
 use Rattle.answer.specs.declared.Answer.TheVariants.{Cut}
 use Rattle.calls.specs.Call.{Module, buffers}
-use Rattle.history_laws.specs.History.{Event, reads, writes, turns, parks, recovers, lists, formats, power_cut}
+use Rattle.history_laws.specs.History.{Event, reads, writes, turns, recovers, lists, formats, power_cut}
 use Rattle.format.proofs.format.Kinds as format-kinds
 use Rattle.format.proofs.format.Reads as format-contract
 use Rattle.read.proofs.read.Kinds as read-kinds
@@ -19,8 +19,6 @@ use Rattle.write.proofs.write.Kinds as write-kinds
 use Rattle.write.proofs.write.Reads as write-contract
 use Rattle.turn.proofs.turn.Kinds as turn-kinds
 use Rattle.turn.proofs.turn.Reads as turn-contract
-use Rattle.parking.proofs.park.Kinds as park-kinds
-use Rattle.parking.proofs.park.Reads as park-contract
 use Rattle.recovery.proofs.recover.Kinds as recover-kinds
 use Rattle.recovery.proofs.recover.Reads as recover-contract
 use Rattle.dirty_pages.proofs.dirty_pages.Kinds as list-kinds
@@ -90,20 +88,6 @@ module _ (c : Turned) where
   abbrev pub turn_event : Event
   turn_event = turns c.args.0.now c.args.1.1.1.1.0 c.args.1.1.1.1.1.0
 
--- park(keys, control, array, cache, allowance)
-abbrev pub Parked : Type 0
-Parked = Call park-kinds.ps park-kinds.r park-contract.Learnt
-
-module _ (c : Parked) where
-  abbrev pub park_before : Module
-  park_before = buffers c.args.1.1.0.now c.args.1.0.now c.args.1.1.1.0.now
-
-  abbrev pub park_after : Module
-  park_after = buffers c.exit.1.1.0.now c.exit.1.0.now c.exit.1.1.1.0.now
-
-  abbrev pub park_event : Event
-  park_event = parks c.args.0.now c.args.1.1.1.1.0
-
 -- recover(keys, control, array, cache, allowance)
 abbrev pub Recovered : Type 0
 Recovered = Call recover-kinds.ps recover-kinds.r recover-contract.Learnt
@@ -135,7 +119,6 @@ pub data Step : Module → Event → Answer → Module → Type 0 where
   read : (c : ReadLine) → Step (read_before c) (read_event c) c.answer (read_after c)
   written : (c : Written) → Step (write_before c) (write_event c) c.answer (write_after c)
   turned : (c : Turned) → Step (turn_before c) (turn_event c) c.answer (turn_after c)
-  parked : (c : Parked) → Step (park_before c) (park_event c) c.answer (park_after c)
   recovered : (c : Recovered) → Step (recover_before c) (recover_event c) c.answer (recover_after c)
   listed : (array : List ℕ) (c : Listed) → Step (list_before array c) (list_event array c) c.answer (list_before array c)
   power : (m : Module) (cache : List ℕ) → Step m (power_cut cache) (Cut 0) (buffers m.array m.control cache)

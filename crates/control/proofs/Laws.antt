@@ -17,7 +17,7 @@ use Rattle.words.proofs.Parts.{part-part, length-put, put_one, put_three}
 use Rattle.words.proofs.Puts.{get_d_part, put-comm}
 use Rattle.memory_map.specs.Map.{pages, cells}
 use Rattle.control.specs.Control.{control_length, mark_of, mark, family, depth, root, count, new_root, Cell, queued, places}
-use Rattle.control.specs.Control.{queue, in_map_lem, turn_at, turn_count, turn_page, turn_mask, turn_bytes, any_open_lem, is_open, other_open}
+use Rattle.control.specs.Control.{queue, in_map, turn_at, turn_count, turn_page, turn_mask, turn_bytes, is_open, other_open}
 use Rattle.control.specs.Control.{valid_mark, valid_head, valid_turn, valid}
 
 pub depth-at : (k : List ℕ) → depth k ≡ get_or k 5 0
@@ -184,45 +184,45 @@ places-from s at n j h =
 -- the cell numbers from place j on: place j is past the bound, or only those after it count
 module _ (bound : ℕ) (s : List ℕ) (at n j : ℕ) where
   in-map-from : j < n
-      → in_map_lem bound (places s (at + 80 * j) (n - j)) ≡ ltb (from_le (part s (at + 80 * j) 8)) bound
-      && in_map_lem bound (places s (at + 80 * (j + 1)) (n - (j + 1)))
-  unfolding in_map_lem queued
-  in-map-from h = ap (in_map_lem bound) (places-from s at n j h)
+      → in_map bound (places s (at + 80 * j) (n - j)) ≡ ltb (from_le (part s (at + 80 * j) 8)) bound
+      && in_map bound (places s (at + 80 * (j + 1)) (n - (j + 1)))
+  unfolding in_map queued
+  in-map-from h = ap (in_map bound) (places-from s at n j h)
 
-  pub in-map-past : j < n → bound ≤ from_le (part s (at + 80 * j) 8) → in_map_lem bound (places s (at + 80 * j) (n - j)) ≡ false
+  pub in-map-past : j < n → bound ≤ from_le (part s (at + 80 * j) 8) → in_map bound (places s (at + 80 * j) (n - j)) ≡ false
   in-map-past h p =
       in-map-from h
-      ∙ ap (λ (b : Bool). b && in_map_lem bound (places s (at + 80 * (j + 1)) (n - (j + 1)))) (le-ltb (from_le (part s (at + 80 * j) 8)) bound p)
+      ∙ ap (λ (b : Bool). b && in_map bound (places s (at + 80 * (j + 1)) (n - (j + 1)))) (le-ltb (from_le (part s (at + 80 * j) 8)) bound p)
 
   pub in-map-next : j < n → from_le (part s (at + 80 * j) 8) < bound
-      → in_map_lem bound (places s (at + 80 * j) (n - j)) ≡ in_map_lem bound (places s (at + 80 * (j + 1)) (n - (j + 1)))
+      → in_map bound (places s (at + 80 * j) (n - j)) ≡ in_map bound (places s (at + 80 * (j + 1)) (n - (j + 1)))
   in-map-next h p =
       in-map-from h
-      ∙ ap (λ (b : Bool). b && in_map_lem bound (places s (at + 80 * (j + 1)) (n - (j + 1)))) (lt-ltb (from_le (part s (at + 80 * j) 8)) bound p)
+      ∙ ap (λ (b : Bool). b && in_map bound (places s (at + 80 * (j + 1)) (n - (j + 1)))) (lt-ltb (from_le (part s (at + 80 * j) 8)) bound p)
 
-  pub in-map-end : n ≤ j → in_map_lem bound (places s (at + 80 * j) (n - j)) ≡ true
-  unfolding in_map_lem places
-  in-map-end h = let none : n - j ≡ 0 = omega arith in ap (λ (i : ℕ). in_map_lem bound (places s (at + 80 * j) i)) none
+  pub in-map-end : n ≤ j → in_map bound (places s (at + 80 * j) (n - j)) ≡ true
+  unfolding in_map places
+  in-map-end h = let none : n - j ≡ 0 = omega arith in ap (λ (i : ℕ). in_map bound (places s (at + 80 * j) i)) none
 
 -- each of the places is below the bound
-pub in-map-at : (bound : ℕ) (s : List ℕ) (at n j : ℕ) → in_map_lem bound (places s at n) ≡ true → j < n → from_le (part s (at + 80 * j) 8) < bound
-unfolding in_map_lem places queued
+pub in-map-at : (bound : ℕ) (s : List ℕ) (at n j : ℕ) → in_map bound (places s at n) ≡ true → j < n → from_le (part s (at + 80 * j) 8) < bound
+unfolding in_map places queued
 in-map-at bound s at zero j e h = absurd (not-suc-le-zero h)
 in-map-at bound s at (suc n) zero e h =
-    let both = (and-eq-true_iff (ltb (from_le (part s at 8)) bound) (in_map_lem bound (places s (at + 80) n))).0 e in
+    let both = (and-eq-true_iff (ltb (from_le (part s at 8)) bound) (in_map bound (places s (at + 80) n))).0 e in
     rw add-zero (ltb-true (from_le (part s at 8)) bound both.0)
 in-map-at bound s at (suc n) (suc j) e h =
-    let both = (and-eq-true_iff (ltb (from_le (part s at 8)) bound) (in_map_lem bound (places s (at + 80) n))).0 e in
+    let both = (and-eq-true_iff (ltb (from_le (part s at 8)) bound) (in_map bound (places s (at + 80) n))).0 e in
     let next : at + 80 + 80 * j ≡ at + 80 * suc j = omega arith in
     subst (λ (i : ℕ). from_le (part s i 8) < bound) next (in-map-at bound s (at + 80) n j both.1 (le_of_suc-le-suc h))
 
-pub in_map_take : (bound : ℕ) (cs : List Cell) (j : ℕ) → in_map_lem bound cs ≡ true → in_map_lem bound (take j cs) ≡ true
-unfolding in_map_lem
+pub in_map_take : (bound : ℕ) (cs : List Cell) (j : ℕ) → in_map bound cs ≡ true → in_map bound (take j cs) ≡ true
+unfolding in_map
 in_map_take bound cs zero e = refl
 in_map_take bound [] (suc j) e = refl
 in_map_take bound (c ∷ cs) (suc j) e =
-    let both = (and-eq-true_iff (ltb c.number bound) (in_map_lem bound cs)).0 e in
-    (and-eq-true_iff (ltb c.number bound) (in_map_lem bound (take j cs))).1 (both.0, in_map_take bound cs j both.1)
+    let both = (and-eq-true_iff (ltb c.number bound) (in_map bound cs)).0 e in
+    (and-eq-true_iff (ltb c.number bound) (in_map bound (take j cs))).1 (both.0, in_map_take bound cs j both.1)
 
 pub length-places : (s : List ℕ) (at n : ℕ) → length (places s at n) ≡ n
 unfolding places
@@ -339,10 +339,6 @@ turn-put k n p mask size =
     ∙ ap (λ (l : List ℕ). put l 673 (to_le 8 mask)) (sym (put-comm k 664 (n ∷ []) 665 (to_le 8 p) (lit≤ tt) (omega (arith, page, size))))
     ∙ put_three k 664 (n ∷ []) (to_le 8 p) (to_le 8 mask) 665 673 refl (omega (arith, page)) (omega (arith, bits, size))
 
-pub any_open_lem : (k : List ℕ) → eqb (get_or k 664 0) 1 ≡ any_open_lem k
-unfolding any_open_lem turn_count
-any_open_lem k = refl
-
 -- no page is open; one is
 module _ (k : List ℕ) (p : ℕ) where
   pub none_open : (get_or k 664 0 ≡ 1 → ⊥) → (false ≡ is_open k p) × (false ≡ other_open k p)
@@ -432,14 +428,14 @@ module _ (k t : List ℕ) (e : drop 664 k ≡ drop 664 t) where
 module _ (k : List ℕ) where
   pub wrong-head : valid_head k ≡ false → false ≡ valid k
   unfolding valid
-  wrong-head e = sym (ap (λ (b : Bool). b && in_map_lem (cells (depth k)) (queue k) && valid_turn k) e)
+  wrong-head e = sym (ap (λ (b : Bool). b && in_map (cells (depth k)) (queue k) && valid_turn k) e)
 
   module _ (e : valid_head k ≡ true) where
-    pub wrong-cells : in_map_lem (cells (depth k)) (places k 24 (count k)) ≡ false → false ≡ valid k
+    pub wrong-cells : in_map (cells (depth k)) (places k 24 (count k)) ≡ false → false ≡ valid k
     unfolding valid queue
     wrong-cells p = sym (ap₂ (λ (a b : Bool). a && b && valid_turn k) e p)
 
-    pub right-cells : in_map_lem (cells (depth k)) (places k 24 (count k)) ≡ true → valid_turn k ≡ valid k
+    pub right-cells : in_map (cells (depth k)) (places k 24 (count k)) ≡ true → valid_turn k ≡ valid k
     unfolding valid queue
     right-cells p = sym (ap₂ (λ (a b : Bool). a && b && valid_turn k) e p)
 
@@ -447,16 +443,16 @@ module _ (k : List ℕ) where
 pub record Valid (k : List ℕ) : Type 0 where
   pub start : valid_head k ≡ true
   pub head : Head k
-  pub cells_in : in_map_lem (cells (depth k)) (queue k) ≡ true
+  pub cells_in : in_map (cells (depth k)) (queue k) ≡ true
   pub turn : valid_turn k ≡ true
 
 pub valid-parts : {k : List ℕ} → valid k ≡ true → Valid k
 unfolding valid
 valid-parts {k} e =
-    let both = (and-eq-true_iff (valid_head k && in_map_lem (cells (depth k)) (queue k)) (valid_turn k)).0 e in
-    let first = (and-eq-true_iff (valid_head k) (in_map_lem (cells (depth k)) (queue k))).0 both.0 in
+    let both = (and-eq-true_iff (valid_head k && in_map (cells (depth k)) (queue k)) (valid_turn k)).0 e in
+    let first = (and-eq-true_iff (valid_head k) (in_map (cells (depth k)) (queue k))).0 both.0 in
     record { start = first.0; head = right-head first.0; cells_in = first.1; turn = both.1 }
 
-pub parts-valid : (k : List ℕ) → valid_head k ≡ true → in_map_lem (cells (depth k)) (queue k) ≡ true → valid_turn k ≡ true → valid k ≡ true
+pub parts-valid : (k : List ℕ) → valid_head k ≡ true → in_map (cells (depth k)) (queue k) ≡ true → valid_turn k ≡ true → valid k ≡ true
 unfolding valid
 parts-valid k a b c = ap₂ (λ (x y : Bool). x && y && valid_turn k) a b ∙ c

@@ -83,10 +83,7 @@ turn_mask k = from_le (part k (turn_at + 9) 8)
 abbrev pub turn_bytes : ℕ → ℕ → ℕ → List ℕ
 turn_bytes n p mask = n ∷ to_le 8 p ++ to_le 8 mask
 
--- a page is open; page p is; another page is
-unfoldable pub any_open : List ℕ → Bool
-any_open k = eqb (turn_count k) 1
-
+-- page p is open; another page is
 unfoldable pub is_open : List ℕ → ℕ → Bool
 is_open k p = eqb (turn_count k) 1 && eqb (turn_page k) p
 

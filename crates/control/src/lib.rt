@@ -15,7 +15,6 @@ ghost use Rattle.control.specs.Control.{
   turn_mask as turn_mask_of,
   turn_at,
   turn_bytes,
-  any_open,
   is_open,
   other_open,
   valid_mark,
@@ -109,15 +108,7 @@ pub fn put_turn(control: &mut [u8], count: u8, page: u64, mask: u64)
     control[TURN] = count;
 }
 
-// Whether a page is open.
-pub fn any_open(control: &[u8]) -> bool
-    requires { length control.now ≡ control_length }
-    ensures { result ≡ any_open control.now }
-{
-    control[TURN] == 1
-}
-
-// Whether page p is.
+// Whether page p is open.
 pub fn is_open(control: &[u8], p: u64) -> bool
     requires { length control.now ≡ control_length }
     ensures { result ≡ is_open control.now p }

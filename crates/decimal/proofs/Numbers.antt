@@ -10,20 +10,20 @@ use borrow.Author.Tests.{lt-ltb, le-ltb, le-leb, lt-leb}
 use Rattle.words.proofs.Order.{lt-or-ge}
 use Rattle.decimal.specs.declared.Number.{Number}
 use Rattle.decimal.specs.declared.Number.TheVariants.{Empty, Value, Bad}
-use Rattle.decimal.specs.Decimal.{is_digit_lem, all_digits, value_from, below64, decimal, digit_after, with_digit}
+use Rattle.decimal.specs.Decimal.{is_digit, all_digits, value_from, below64, decimal, digit_after, with_digit}
 
 -- ---- one digit more
 
 pub too_small : (n b : ℕ) → b < 48 → Bad ≡ digit_after n b
-unfolding digit_after is_digit_lem
+unfolding digit_after is_digit
 too_small n b h = rw (lt-leb 48 b h)
 
 pub too_large : (n b : ℕ) → 57 < b → Bad ≡ digit_after n b
-unfolding digit_after is_digit_lem
+unfolding digit_after is_digit
 too_large n b h = let low : 48 ≤ b = omega arith in rw (le-leb 48 b low, lt-leb b 57 h)
 
 digit : (n b : ℕ) → 48 ≤ b → b ≤ 57 → below64 (10 * n + (b - 48)) ≡ digit_after n b
-unfolding digit_after is_digit_lem
+unfolding digit_after is_digit
 digit n b p q = rw (le-leb 48 b p, le-leb b 57 q)
 
 pub fits : (n : ℕ) → n < 2 ^ 64 → below64 n ≡ Value n
@@ -75,9 +75,9 @@ module _ (bs : List ℕ) (rest : (n : ℕ) → n < 2 ^ 64 → numbered (Value n)
 from-value : (bs : List ℕ) (n : ℕ) → n < 2 ^ 64 → numbered (Value n) bs ≡ all_of n bs
 unfolding with_digit digit_after all_digits value_from all_of numbered
 from-value [] n h = sym (fits n h)
-from-value (b ∷ bs) n h = after-digit bs (from-value bs) (is_digit_lem b) (10 * n + (b - 48))
+from-value (b ∷ bs) n h = after-digit bs (from-value bs) (is_digit b) (10 * n + (b - 48))
 
 pub number_of : (bs : List ℕ) → numbered Empty bs ≡ decimal bs
 unfolding with_digit digit_after decimal all_digits value_from numbered
 number_of [] = refl
-number_of (b ∷ bs) = after-digit bs (from-value bs) (is_digit_lem b) (10 * 0 + (b - 48))
+number_of (b ∷ bs) = after-digit bs (from-value bs) (is_digit b) (10 * 0 + (b - 48))

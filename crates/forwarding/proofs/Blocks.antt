@@ -20,7 +20,7 @@ use Rattle.cache.specs.Cache.{with_slot, cell_content}
 use Rattle.cache.proofs.Owners.{rest, none as past}
 use Rattle.node.proofs.Laws.{slot-put, cell_room}
 use Rattle.journal.specs.Journal.{Media}
-use Rattle.calls.specs.Recovery.{Source, line_step_lem, source_of, Forwarded, so_far, failed, onward, forward_page}
+use Rattle.calls.specs.Recovery.{Source, line_step, source_of, Forwarded, so_far, failed, onward, forward_page}
 use Rattle.calls.specs.Recovery.{rebuild_block, rebuild_slot, rebuild_blocks}
 use Rattle.forwarding.specs.Rebuild.{Placed, source_is, as_byte}
 use Rattle.forwarding.proofs.Forward.{Forwarding, page-fails, page-all}
@@ -165,7 +165,7 @@ module _ (h : ℕ) (keys : List ℕ) (m : Media) (os : List ℕ) where
             ap₂ {C = Forwarded} (λ (i n : ℕ). forward_page k (source_is i keys a n) (owner s - 1) ms sum) (sym told) (sym majored) ∙ e
 
         pub rebuilding-fails : {n : ℕ} → n ≡ cond (is_open k (owner s - 1)) 0 64 → j < n → {v : ℕ}
-            → v ≡ as_byte (line_step_lem (source_is g keys a ma) line (get_or cur j 0)) → 128 ≤ v → blocks_from 0 first 0 ≡ failed (v - 128) line
+            → v ≡ as_byte (line_step (source_is g keys a ma) line (get_or cur j 0)) → 128 ≤ v → blocks_from 0 first 0 ≡ failed (v - 128) line
         rebuilding-fails bound q {v} e z =
             r.rest ∙ blocks-fails s p c sum some· (block ∙ ap (cell_content a) cell) unpacked (v - 128) line
             (as_source (page-fails k (source_is g keys a ma) (owner s - 1) ms sum f bound q e z))

@@ -19,7 +19,7 @@ use Rattle.candidates.specs.declared.Choice.TheVariants.{None, Only, Several}
 use Rattle.candidates.proofs.Choices.{OnlyIs, choice-near}
 use Rattle.control.specs.Control.{is_open}
 use Rattle.cache.specs.Cache.{cell_bytes}
-use Rattle.calls.specs.Recovery.{Step, to, bad, by_phase, by_choice, Source, step_of, line_step_lem, phase_byte}
+use Rattle.calls.specs.Recovery.{Step, to, bad, by_phase, by_choice, Source, step_of, line_step, phase_byte}
 use Rattle.calls.specs.Recovery.{Forwarded, so_far, failed, onward, stepped, forward_from, forward_page}
 use Rattle.forwarding.specs.Rebuild.{as_byte}
 
@@ -45,7 +45,7 @@ choice-within s None p = tt
 choice-within s (Only v) p = p
 choice-within s Several p = tt
 
-line-within : (x : Source) (n s : ℕ) → Within s (line_step_lem x n s)
+line-within : (x : Source) (n s : ℕ) → Within s (line_step x n s)
 unfolding step_of
 line-within x n s = go x.family
   where
@@ -55,12 +55,12 @@ line-within x n s = go x.family
 
 -- how the code of `step` ends, by the family
 module _ (x : Source) (n s : ℕ) where
-  pub phase-step : x.family ≡ 0 → {p r : ℕ} → r ≡ as_byte (by_phase s p) → p ≡ phase_byte x.array n → r ≡ as_byte (line_step_lem x n s)
+  pub phase-step : x.family ≡ 0 → {p r : ℕ} → r ≡ as_byte (by_phase s p) → p ≡ phase_byte x.array n → r ≡ as_byte (line_step x n s)
   unfolding step_of
   phase-step z e q = e ∙ ap (λ (i : ℕ). as_byte (by_phase s i)) q ∙ ap (λ (f : ℕ). as_byte (step_of f x n s)) (sym z)
 
   pub choice-step : (x.family ≡ 0 → ⊥) → {b : List ℕ} {y : Choice} {r : ℕ} → r ≡ as_byte (by_choice y) → b ≡ cell_bytes x.array n
-      → y ≡ choice x.keys b n x.major s → r ≡ as_byte (line_step_lem x n s)
+      → y ≡ choice x.keys b n x.major s → r ≡ as_byte (line_step x n s)
   unfolding step_of
   choice-step z {b} {y} {r} e p q = go x.family z
     where
@@ -111,8 +111,8 @@ by_byte s (bad k) w {v} e =
       fails = λ q. ap bad number;
     }
 
-line-byte : (x : Source) (n s : ℕ) {v : ℕ} → v ≡ as_byte (line_step_lem x n s) → ByByte s v (line_step_lem x n s)
-line-byte x n s e = by_byte s (line_step_lem x n s) (line-within x n s) e
+line-byte : (x : Source) (n s : ℕ) {v : ℕ} → v ≡ as_byte (line_step x n s) → ByByte s v (line_step x n s)
+line-byte x n s e = by_byte s (line_step x n s) (line-within x n s) e
 
 -- ---- lines one by one
 
@@ -136,18 +136,18 @@ module _ (x : Source) (n : ℕ) (ss : List ℕ) (first : ℕ) where
       }
 
   module _ {cur : List ℕ} {j sum : ℕ} (f : Forwarding x n ss first cur j sum) (q : j < 64) {v : ℕ}
-      (e : v ≡ as_byte (line_step_lem x (n + j) (get_or cur j 0))) where
+      (e : v ≡ as_byte (line_step x (n + j) (get_or cur j 0))) where
     abbrev old : ℕ
     old = get_or cur j 0
 
-    by : ByByte old v (line_step_lem x (n + j) old)
+    by : ByByte old v (line_step x (n + j) old)
     by = line-byte x (n + j) old e
 
     -- line n + j, and those after it
     abbrev others : List ℕ → ℕ → Forwarded
     others = forward_from x (suc (n + j)) (drop (suc j) cur)
 
-    opened : {t : Step} → line_step_lem x (n + j) old ≡ t → forward_from x n ss [] first ≡ onward (stepped t (n + j) old (take j cur) sum) others
+    opened : {t : Step} → line_step x (n + j) old ≡ t → forward_from x n ss [] first ≡ onward (stepped t (n + j) old (take j cur) sum) others
     unfolding forward_from
     opened d =
         f.rest ∙ ap (λ (l : List ℕ). forward_from x (n + j) l (take j cur) sum) (drop-cons cur j 0 (omega (arith, f.size)))
@@ -200,7 +200,7 @@ few-lines false n e = omega arith
 
 module _ (k : List ℕ) (x : Source) (p : ℕ) (ss : List ℕ) (first : ℕ) {cur : List ℕ} {j sum n : ℕ}
     (f : Forwarding x (64 * p) ss first cur j sum) (bound : n ≡ cond (is_open k p) 0 64) where
-  pub page-fails : j < n → {v : ℕ} → v ≡ as_byte (line_step_lem x (64 * p + j) (get_or cur j 0)) → 128 ≤ v
+  pub page-fails : j < n → {v : ℕ} → v ≡ as_byte (line_step x (64 * p + j) (get_or cur j 0)) → 128 ≤ v
       → forward_page k x p ss first ≡ failed (v - 128) (64 * p + j)
   unfolding forward_page
   page-fails q {v} e z = go (is_open k p) bound

@@ -3,7 +3,7 @@
 use mathlib.Core.Path.{◌≡◌, refl, sym, ap, ◌∙◌, subst}
 use mathlib.Core.Bool.{true}
 use mathlib.Core.List.{List, [], ◌∷◌}
-use Prim.Native.Nat.{ℕ, suc, ◌+◌, ◌-◌, ◌*◌, ◌/◌, ◌^◌, ◌≤◌, ◌<◌}
+use Prim.Native.Nat.{ℕ, suc, ◌+◌, ◌*◌, ◌/◌, ◌^◌, ◌≤◌, ◌<◌}
 use native.Mathlib.Omega.{arith}
 use lib.Dec.{lit<, lit≤}
 use lib.ListN.{length, drop}
@@ -13,9 +13,9 @@ use Rattle.words.proofs.Parts.{length-put, below_put}
 use Rattle.words.proofs.Puts.{part-put-before, part-put-same, drop-put}
 use Rattle.memory_map.specs.Map.{cells, array_length}
 use Rattle.slot_map.specs.Slots.{cache_length}
-use Rattle.control.specs.Control.{family, Cell, control_length, turn_at, depth, root, count, in_map_lem, valid_head}
+use Rattle.control.specs.Control.{family, Cell, control_length, turn_at, depth, root, count, in_map, valid_head}
 use Rattle.control.proofs.Laws.{root-at, front-count, front-root, same-depth, same-family, same_head}
-use Rattle.journal.specs.Journal.{Store, Media, media, store_all, finish, batch_stores, pending_stores, turn_stores, made}
+use Rattle.journal.specs.Journal.{Store, Media, media, store_all, finish, batch_stores, turn_stores, made}
 use Rattle.journal.proofs.Each.{Each, each_take}
 use Rattle.journal.proofs.Laws.{length-finish, length-batch, made_all}
 use Rattle.journal.proofs.Queue.{Whole, laid, length-laid, committed, length-committed}
@@ -29,8 +29,8 @@ use Rattle.call_laws.proofs.Loads.{Sound}
 use Rattle.call_laws.proofs.Kept.{wholes, in_map_lem, array-cells}
 use Rattle.history_laws.proofs.Setting.{Setting, tree_of, tree_root, Opening, Section}
 use Rattle.history_laws.proofs.Opening.{section-same}
-use Rattle.history_laws.proofs.State.{finished, finished-idle, Keeps, Settled, Holds, settled-now}
-use Rattle.history_laws.proofs.Pending.{queue-valid, cleared-count, length-rooted, section-rooted, finished-cut, holds-cut}
+use Rattle.history_laws.proofs.State.{Keeps, Settled, Holds, settled-now}
+use Rattle.history_laws.proofs.Pending.{queue-valid, cleared-count, length-rooted, section-rooted, holds-cut}
 
 rooted-root : (k : List ℕ) (r : ℕ) → length k ≡ control_length → r < 2 ^ 64 → root (cleared (rooted k r)) ≡ r
 rooted-root k r size word =
@@ -73,8 +73,8 @@ module _ {S : Setting} {t : Book} {u : Opening} {d : Media} {x : List Cell} {r :
   ws : Each Whole x
   ws = wholes h high w.sound
 
-  inside : in_map_lem (array_length h / 72) x ≡ true
-  inside = ap (λ (n : ℕ). in_map_lem n x) (array-cells h (array_length h) refl) ∙ in_map_lem h w.sound
+  inside : in_map (array_length h / 72) x ≡ true
+  inside = ap (λ (n : ℕ). in_map n x) (array-cells h (array_length h) refl) ∙ in_map_lem h w.sound
 
   within : Each (Within (array_length h / 72)) (batch_stores x r)
   within = within-batch (array_length h / 72) r ws inside few
@@ -139,17 +139,6 @@ module _ {S : Setting} {t : Book} {u : Opening} {d : Media} {x : List Cell} {r :
       subst (λ (e : Media). part e.control 0 7 ≡ part k 0 7) commit-is
       (stores-front base.formed (each_take (length x + 1) within))
 
-  -- what is pending then
-  rest : pending_stores now ≡ finish x r
-  rest = committed-pending k x r size few ws filled w.word
-
-  finished-now : finished (media d.array now) ≡ whole
-  finished-now = ap (store_all (media d.array now)) rest ∙ sym finishes
-
-  made-now : (j : ℕ) → store_all (media d.array now) (made j (pending_stores now))
-      ≡ store_all d (made (length x + suc j) (batch_stores x r))
-  made-now j = ap (λ (xs : List Store). store_all (media d.array now) (made j xs)) rest ∙ sym (up_to j)
-
   module _ (c : List ℕ) (sized : length c ≡ cache_length h) (plain : Below 256 c) where
     pending : Holds S t u (with_media (media d.array now) c)
     pending =
@@ -160,18 +149,19 @@ module _ {S : Setting} {t : Book} {u : Opening} {d : Media} {x : List Cell} {r :
           formed = subst (Formed (array_length h)) commit-is (made_kept (length x + 1) base.formed within);
           right = queue-valid now x
               (same_head k now (sym front-now) (omega (arith, few, committed-count k x r size few ws)) base.right)
-              (committed-queue k x r size few ws) (ap (λ (e : ℕ). in_map_lem (cells e) x) (deep ∙ base.deep) ∙ in_map_lem h w.sound)
+              (committed-queue k x r size few ws) (ap (λ (e : ℕ). in_map (cells e) x) (deep ∙ base.deep) ∙ in_map_lem h w.sound)
               (section-same now section-now deep base.section).valid;
           deep = deep ∙ base.deep;
-          settled = subst (Settled S t u) (sym finished-now) whole-settled;
+          settled = subst (Settled S t u) (finishes
+              ∙ sym (ap (store_all (media d.array now)) (committed-pending k x r size few ws filled w.word))) whole-settled;
         }
 
     -- cut after it
     pending-cut : (j : ℕ) → Holds S t u (with_media (store_all d (made (length x + suc j) (batch_stores x r))) c)
-    pending-cut j = subst (λ (e : Media). Holds S t u (with_media e c)) (made-now j) (holds-cut pending j)
-
-    pending-whole : (j : ℕ) → finished (store_all d (made (length x + suc j) (batch_stores x r))) ≡ whole
-    pending-whole j = ap finished (sym (made-now j)) ∙ finished-cut pending j ∙ finished-now
+    pending-cut j =
+        subst (λ (e : Media). Holds S t u (with_media e c))
+        (ap (λ (xs : List Store). store_all (media d.array now) (made j xs)) (committed-pending k x r size few ws filled w.word)
+        ∙ sym (up_to j)) (holds-cut pending j)
 
 -- ---- the whole batch
 
@@ -240,20 +230,6 @@ module _ {S : Setting} {b : Book} {o : Opening} {t : Book} {u : Opening} {m : Mo
 
   pub array_whole : (store_all (media_of m) xs).array ≡ put-cells m.array x
   array_whole = ap (λ (d : Media). d.array) all-stored ∙ whole-array base payload
-
-  -- cut before the commit, the array stays; cut after it, what is pending brings it to what the whole batch leaves
-  pub array-dropped : (n : ℕ) → n ≤ length x → (finished (store_all (media_of m) (made n xs))).array ≡ m.array
-  array-dropped n q =
-      ap (λ (d : Media). d.array)
-      (finished-idle (store_all (media_of m) (made n xs)) (settled-cut n q).idle ∙ ap (store_all (media_of m)) (w.dropped n q))
-      ∙ (batch-dropped (array_length h) m.array m.control x r held.formed (ws base payload) (inside base payload) filled few n q).0
-
-  pub array-kept : (n : ℕ) → length x < n → (finished (store_all (media_of m) (made n xs))).array ≡ (store_all (media_of m) xs).array
-  array-kept n q =
-      let place : n ≡ length x + suc (n - length x - 1) = omega arith in
-      ap (λ (d : Media). d.array)
-      (ap (λ (i : ℕ). finished (store_all (media_of m) (made i xs))) place ∙ ap finished (w.kept (n - length x - 1))
-      ∙ pending-whole base payload m.cache held.sized held.plain (n - length x - 1) ∙ sym all-stored)
 
   pub settled-whole : Settled S t u (store_all (media_of m) xs)
   settled-whole = subst (Settled S t u) (sym all-stored) (whole-settled base payload)

@@ -21,7 +21,7 @@ use Rattle.candidates.proofs.Choices.{Rival, choice-fits}
 use Rattle.control.specs.Control.{family, is_open}
 use Rattle.cache.specs.Cache.{shadow_owner, with_slot, cell_bytes}
 use Rattle.journal.specs.Journal.{media}
-use Rattle.calls.specs.Recovery.{Step, to, bad, by_phase, by_choice, phase_byte, Source, step_of, line_step_lem, source_of}
+use Rattle.calls.specs.Recovery.{Step, to, bad, by_phase, by_choice, phase_byte, Source, step_of, line_step, source_of}
 use Rattle.calls.specs.Recovery.{Forwarded, so_far, failed, onward, stepped, forward_from, forward_page, rebuild_block}
 use Rattle.calls.specs.Format.{counts_from, fresh_node}
 use Rattle.history_laws.specs.History.{total}
@@ -58,7 +58,7 @@ step-on n s ms sum (halts d e) = ended d n (ap (λ (t : Step). stepped t n s ms 
 module _ (D : Type 0) (x : Source) (count : ℕ → ℕ) where
   record Reaches (n s : ℕ) : Type 0 where
     behind : s ≤ count n
-    comes : StepComes D (line_step_lem x n s) (count n)
+    comes : StepComes D (line_step x n s) (count n)
 
   lines-come : (n : ℕ) (ss : List ℕ) → ((k : ℕ) → k < length ss → Reaches (n + k) (get_or ss k 0)) → (ms : List ℕ) (sum : ℕ)
       → (total ss ≤ total (counts_from count n (length ss)))

@@ -23,12 +23,10 @@ use Rattle.calls.specs.Call.{Module, Called, storing, refuse, access_refusal}
 use Rattle.calls.specs.Read.{Reading, blank_text, answered, line_minor, read_judged, read}
 use Rattle.calls.specs.Write.{write_stores, written_cache, write_loaded, write_path, write_judged, write}
 use Rattle.calls.specs.Turn.{turn_refusal, turn_judged, turn, page_path, before_finished}
-use Rattle.calls.specs.Park.{park_refusal, park_judged, park}
 use Rattle.calls.specs.Recovery.{recover}
 use Rattle.calls.specs.Format.{format_refusal, formatted, format}
 use Rattle.calls.specs.DirtyPages.{list_refusal, list_judged}
-use Rattle.history_laws.specs.History.{Event, reads, writes, turns, parks, recovers, lists, formats, power_cut, step, Book}
-use Rattle.history_laws.specs.History.{pending_made}
+use Rattle.history_laws.specs.History.{Event, reads, writes, turns, recovers, lists, formats, power_cut, step, Book, pending_made}
 use Rattle.history_laws.specs.History.{commits, entered, finishes, turn_entered, book_after, Keyed, Admitted, awaits, Allowed}
 use Rattle.history_laws.specs.History.{module_after, book_of}
 use Rattle.call_laws.proofs.Judged.{access-accepted, turn-accepted}
@@ -40,9 +38,8 @@ use Rattle.history_laws.proofs.Page.{Paged, path-is}
 use Rattle.history_laws.proofs.Reading.{Access, was, paged, walk, stores, minor_is, reads-blank, reads-text}
 use Rattle.history_laws.proofs.Writing.{read-outcome, Writable, cells, root-new, few-new, some-new, write-outcome, write-is}
 use Rattle.history_laws.proofs.Turned.{Turns, refused, went, turn-ends}
-use Rattle.history_laws.proofs.Parking.{park-ends}
 use Rattle.history_laws.proofs.Recovery.{Ends, cut, rebuilt, doubted, ends}
-use Rattle.history_laws.proofs.Refused.{Same, read_same, write_same, turn-same, park-same, recover-same}
+use Rattle.history_laws.proofs.Refused.{Same, read_same, write_same, turn-same, recover-same}
 
 -- a write that makes 2m + 3 stores with stores enough is committed by a cut after more than m
 cut-commits : (m full : ℕ) → full ≡ 2 * m + 3 → (k : ℕ) → commits (Cut k) full ≡ ltb m k
@@ -92,13 +89,12 @@ module _ (S : Setting) where
     ended {size} yea nay (kept i p e x) =
         subst By (sym e) (subst (λ (s : Bool). Inv true (book s) out.after) (sym (nay i ∙ lt-ltb size i p)) (cut-only x))
 
-  -- one that enters nothing
-  unentered : (b : Book) (size : ℕ) (answer : Answer) (out : Called) → Outcome S b b size answer out → Leads false b out
-  unentered b size answer out (done e y) = ready-inv y
-  unentered b size answer out (dropped i p e x) = cut-inv false out i e x
-  unentered b size answer out (kept i p e x) = cut-inv false out i e x
-
   -- ---- a read with the module's keys
+
+  read-ended : (b : Book) (size : ℕ) (answer : Answer) (out : Called) → Outcome S b b size answer out → Leads false b out
+  read-ended b size answer out (done e y) = ready-inv y
+  read-ended b size answer out (dropped i p e x) = cut-inv false out i e x
+  read-ended b size answer out (kept i p e x) = cut-inv false out i e x
 
   module _ {b : Book} {o : Opening} {m : Module} (r : Ready S b o m) where
     open-line : (n : ℕ) (buffer : List ℕ) → access_refusal keys n buffer m ≡ 0 → Access S b o m n
@@ -114,7 +110,7 @@ module _ (S : Setting) where
       read-stored : (w : Access S b o m n) (answer : Answer) (t : List ℕ)
           → Leads false b (answered allowance m (stores w) answer (walk w).cache t out).called
       unfolding answered
-      read-stored w answer t = unentered b _ answer _ (read-outcome w answer allowance)
+      read-stored w answer t = read-ended b _ answer _ (read-outcome w answer allowance)
 
       read-text : Access S b o m n → access_refusal keys n out m ≡ 0 → (x : Option (List ℕ)) → b.text n ≡ x
           → Leads false b (read keys n allowance out m).called
@@ -233,16 +229,6 @@ module _ (S : Setting) where
               ends_so (turn-ends (record { ready = r; page = inside }) e allowance)
           go (suc k) e = subst Finished (sym (ap (λ (i : ℕ). turn_judged i keys p allowance m) e)) (not-finished (suc k) 0 0)
 
-    -- ---- a parking
-
-    park-own : (allowance : ℕ) → Leads false b (park keys allowance m)
-    unfolding park_judged awaits
-    park-own allowance = go (park_refusal keys m) refl
-      where
-        go : (k : ℕ) → park_refusal keys m ≡ k → Leads false b (park keys allowance m)
-        go zero e = unentered b _ _ _ (park-ends r keys e allowance).1
-        go (suc k) e = subst (Leads false b) (sym (ap (λ (i : ℕ). park_judged i allowance m) e)) (ready-inv r)
-
   -- ---- a recovery
 
   recover-own : (aw : Bool) {b : Book} {m : Module} → Inv aw b m → (allowance : ℕ) → Leads aw b (recover keys allowance m)
@@ -307,13 +293,6 @@ module _ (S : Setting) where
         subst (TurnInv aw given p allowance) (sym s.3)
         (subst (Inv aw b) (sym (turn-same m given p allowance s.0 s.1 s.2 s.3)) v)
 
-    park-event : aw ≡ false → (given : List ℕ) (allowance : ℕ) → Keyed keys given (park given allowance m).answer
-        → Leads aw b (park given allowance m)
-    park-event idle given allowance (inl z) =
-        subst (λ (g : List ℕ). Leads aw b (park g allowance m)) (sym z)
-        (subst (λ (s : Bool). Leads s b (park keys allowance m)) (sym idle) (park-own (v.ready idle) allowance))
-    park-event idle given allowance (inr s) = refused-inv _ v (park-same m given allowance) s
-
     recover-event : (given : List ℕ) (allowance : ℕ) → Keyed keys given (recover given allowance m).answer
         → Leads aw b (recover given allowance m)
     recover-event given allowance (inl z) = subst (λ (g : List ℕ). Leads aw b (recover g allowance m)) (sym z) (recover-own aw v allowance)
@@ -345,12 +324,11 @@ module _ (S : Setting) where
           settled = s.settled;
         })
 
-    pub event : (e : Event) → Admitted keys aw m e → Inv (awaits aw (step e m).answer) (book_after e m b) (step e m).after
+    event : (e : Event) → Admitted keys aw m e → Inv (awaits aw (step e m).answer) (book_after e m b) (step e m).after
     unfolding Admitted step book_after awaits WriteInv TurnInv format
     event (reads given n allowance out) ok = read-event ok.0 given n allowance out ok.1
     event (writes given n text allowance) ok = write-event ok.0 given n text (record { at = ok.4 }) allowance ok.1
     event (turns given p allowance) ok = turn-event ok.0 given p allowance ok.1
-    event (parks given allowance) ok = park-event ok.0 given allowance ok.1
     event (recovers given allowance) ok = recover-event given allowance ok.0
     event (lists out) ok = list-event ok.0 out (list_refusal m.control m.cache out)
     event (formats given d f) ok = format-event given d f (format_refusal given d f m) ok.2
@@ -358,15 +336,13 @@ module _ (S : Setting) where
 
   -- ---- and a list of them
 
-  -- what holds after es, and that what follows is allowed
-  pub record Led (m : Module) (b : Book) (es rest : List Event) : Type 0 where
+  pub record Led (m : Module) (b : Book) (es : List Event) : Type 0 where
     pub awaited : Bool
     pub inv : Inv awaited (book_of m b es) (module_after m es)
-    pub allowed : Allowed keys awaited (module_after m es) rest
 
-  pub led : (es rest : List Event) (aw : Bool) (b : Book) (m : Module) → Inv aw b m → Allowed keys aw m (es ++ rest) → Led m b es rest
+  pub led : (es rest : List Event) (aw : Bool) (b : Book) (m : Module) → Inv aw b m → Allowed keys aw m (es ++ rest) → Led m b es
   unfolding Allowed book_of module_after
-  led [] rest aw b m v ok = record { awaited = aw; inv = v; allowed = ok }
+  led [] rest aw b m v ok = record { awaited = aw; inv = v }
   led (e ∷ es) rest aw b m v ok =
       let r = led es rest (awaits aw (step e m).answer) (book_after e m b) (step e m).after (event v e ok.0) ok.1 in
-      record { awaited = r.awaited; inv = r.inv; allowed = r.allowed }
+      record { awaited = r.awaited; inv = r.inv }

@@ -11,7 +11,7 @@ use Rattle.words.proofs.Digits.{number-exact}
 use Rattle.control.specs.Control.{mark_of, mark, depth, root, count, turn_count, valid_head, fresh_control}
 use Rattle.control.proofs.Laws.{Marked, marked, turn-count-at, turn-none}
 use Rattle.cache.specs.Cache.{empty_cache}
-use Rattle.cache.proofs.Laws.{length-empty, below-empty}
+use Rattle.cache.proofs.Laws.{length-empty, below-empty, owner-empty, formed-empty}
 use Rattle.journal.specs.Journal.{media}
 use Rattle.calls.specs.Format.{fresh_array}
 use Rattle.history_laws.specs.History.{empty_book}
@@ -19,7 +19,6 @@ use Rattle.call_laws.proofs.Fresh.{array-length, array-bytes, control_length, co
 use Rattle.history_laws.proofs.Setting.{Setting, tree_root, closed, is_done, Says}
 use Rattle.history_laws.proofs.Tree.{tree-tag}
 use Rattle.history_laws.proofs.Formatted.{no_writes, formatted-durable, none-listed, no-data}
-use Rattle.history_laws.proofs.Live.{live-empty}
 use Rattle.history_laws.proofs.State.{RowOk, Settled, Ready, settled-holds}
 
 -- ---- the control record of a format
@@ -97,5 +96,11 @@ module _ (S : Setting) where
       record {
         holds = settled-holds (empty_cache h) (length-empty h) (below-empty h) first-settled;
         idle = fresh-count h S.family top;
-        live = live-empty (formatted-durable S) (λ s p. none-listed S s);
+        live = record {
+          durable = formatted-durable S;
+          fit = record { sized = length-empty h; formed = formed-empty h; bytes = below-empty h };
+          listed = λ s p. owner-empty h s ∙ sym (none-listed S s);
+          fresh = λ s i p o. absurd (omega (arith, o, owner-empty h s));
+          clean = λ s i p o z. absurd (omega (arith, o, owner-empty h s));
+        };
       }

@@ -26,11 +26,7 @@ pub mod Reading
 pub mod Writing
 pub mod Turn
 pub mod Turned
-pub mod Refused
-pub mod Parking
 pub mod Recovery
+pub mod Refused
 pub mod Events
-pub mod Begun
-pub mod Equal
-pub mod Listed
 pub mod Rule

@@ -1,32 +1,33 @@
 -- A cache that goes with its array: it holds what the shadow lists, all of it of the fresh tree, and what is clean stands in the array too.
--- They stay so where a slot gets another node, or none, by the cells that are stored for it. Assumes nothing.
+-- Loading a path then never finds a wrong tag, and keeps both so. Assumes nothing.
 use mathlib.Core.Path.{◌≡◌, refl, sym, ap, ap₂, ◌∙◌, subst}
 use mathlib.Core.Logic.{◌⊎◌, inl, inr}
 use mathlib.Core.Bool.{Bool, true, false, cond, false≢true}
-use mathlib.Core.List.{List, [], ◌∷◌}
-use Prim.Native.Nat.{ℕ, zero, suc, ◌-◌, ◌*◌, ◌^◌, ◌≤◌, ◌<◌}
-use native.Mathlib.Nat.{suc_inj}
+use mathlib.Core.List.{List, [], ◌∷◌, ◌++◌}
+use Prim.Native.Nat.{ℕ, zero, suc, ◌-◌, ◌*◌, ◌≤◌, ◌<◌}
+use native.Mathlib.Nat.{le_refl}
 use native.Mathlib.Omega.{arith}
 use borrow.Author.Tests.{eq-eqb, ne_eqb}
-use lib.ListN.{length}
-use Rattle.words.specs.Bytes.{part}
+use lib.ListN.{length, replicate}
+use Rattle.words.specs.Bytes.{to_le, part, put}
 use Rattle.words.proofs.Order.{eq-or-not}
-use Rattle.memory_map.specs.Map.{lines, nodes, slots}
-use Rattle.memory_map.proofs.Laws.{nodes-small}
+use Rattle.memory_map.specs.Map.{lines, nodes, slots, cell_of}
+use Rattle.memory_map.specs.Map.Item.{shadow}
+use Rattle.memory_map.proofs.Laws.{nodes-small, nodes-top}
 use Rattle.slot_map.specs.Slots.{slot_of, level_of}
 use Rattle.slot_map.proofs.Laws.{slot-within, level-slot, level-within}
-use Rattle.cache.specs.Cache.{owner, dirty, content, shadow_owner, with_slot, empty_cache, holds, current}
-use Rattle.cache.proofs.Laws.{owned-same, owner-same, content-same, owner-other, dirty-other, content-other}
+use Rattle.control.specs.Control.{Cell}
+use Rattle.cache.specs.Cache.{owner, dirty, content, shadow_owner, with_slot, top_slot, holds, current}
+use Rattle.cache.proofs.Laws.{owner-same, content-same, owner-other, dirty-other, content-other}
 use Rattle.cache.proofs.Laws.{holds-owner, owner-holds, slot-holds, current-cached, current-missing}
-use Rattle.cache.proofs.Laws.{length-empty, below-empty, owner-empty, formed-empty}
-use Rattle.journal.proofs.Again.{put-cells, put-cells-append}
-use Rattle.calls.specs.Path.{node_cell, shadow_cell, evicted, slot_cells}
+use Rattle.journal.proofs.Again.{put-cells}
+use Rattle.calls.specs.Path.{evicted, node_cell}
 use Rattle.call_laws.proofs.Loads.{Fit}
 use Rattle.history_laws.proofs.Setting.{Setting, Tree, tree_node, node_in, Opening}
 use Rattle.history_laws.proofs.Tree.{tree-length}
 use Rattle.history_laws.proofs.Durable.{Durable}
 use Rattle.history_laws.proofs.Stores.{with-node, node-same, other-level, node_lines, shadow-kept, fresh_kept, node-durable}
-use Rattle.history_laws.proofs.Stores.{Vacant, with-shadow, shadow-lines, listed_same, listed-other, nodes-kept, shadow-durable}
+use Rattle.history_laws.proofs.Stores.{Vacant, shadow-lines, listed_same, listed-other, nodes-kept, shadow-durable}
 
 module _ (S : Setting) (T : Tree) (o : Opening) where
   open S use {h}
@@ -56,192 +57,174 @@ module _ {S : Setting} {T : Tree} {o : Opening} {a c : List ℕ} (v : Live S T o
           current-missing h a c l i e
           ∙ v.durable.stored l i p q (λ o. false≢true (sym e ∙ owner-holds c l i (v.listed (slot_of l i) within ∙ o)))
 
-  -- ---- a slot that is filled afresh, or emptied
+  -- a node that the cache lacks; it is the top where the cache lacks that
+  pub record Missing (l i : ℕ) : Type 0 where
+    pub level : l ≤ h
+    pub inside : i < nodes h l
+    pub absent : holds c l i ≡ false
+    pub top : owner c (top_slot h) ≡ 0 → l ≡ h
 
-  -- what slot s has next: the owner n, 0 for none, and the content b; a node comes as the tree has it, and from the array
-  pub record Next (s n : ℕ) (b : List ℕ) : Type 0 where
-    pub within : s < slots h
-    pub word : n < 2 ^ 64
-    pub size : length b ≡ 64
-    pub fresh : (i : ℕ) → n ≡ suc i → b ≡ tree_node S T (level_of s) i
-    pub there : (i : ℕ) → n ≡ suc i → node_in S a (level_of s) i ≡ tree_node S T (level_of s) i
+  module _ {l i : ℕ} (w : Missing l i) where
+    within : slot_of l i < slots h
+    within = slot-within h l i w.level
 
-  module _ {s n : ℕ} {b : List ℕ} (w : Next s n b) where
-    open w use {within, word, size}
+    -- ---- its slot freed: the dirty former owner's cell stored
 
-    abbrev level : ℕ
-    level = level_of s
+    record Freed (b : List ℕ) : Type 0 where
+      durable : Durable S T o b
+      shadows : (t : ℕ) → t < slots h → shadow_owner h b t ≡ shadow_owner h a t
+      kept : (k j : ℕ) → k ≤ h → j < nodes h k → node_in S a k j ≡ tree_node S T k j → node_in S b k j ≡ tree_node S T k j
+      old : (j : ℕ) → j < nodes h l → owner c (slot_of l i) ≡ suc j → node_in S b l j ≡ tree_node S T l j
+      lower : (k j : ℕ) → k < l → j < nodes h k → node_in S b k j ≡ node_in S a k j
+      rows : (n : ℕ) → n < lines h → part b (72 * n) 72 ≡ part a (72 * n) 72
 
-    low : level ≤ h
-    low = level-within h s within
+    -- what a filled slot has
+    of-level : (j : ℕ) → owner c (slot_of l i) ≡ suc j → (j < nodes h l) × (content c (slot_of l i) ≡ tree_node S T l j)
+    of-level j e =
+        let level = level-slot l i in (
+          subst (λ (k : ℕ). j < nodes h k) level (slot-holds h c (slot_of l i) j v.fit.formed within e).0,
+          v.fresh (slot_of l i) j within e ∙ ap (λ (k : ℕ). tree_node S T k j) level,
+        )
 
-    -- the dirty former owner's cell stored
-    record Freed (e : List ℕ) : Type 0 where
-      durable : Durable S T o e
-      shadows : (t : ℕ) → t < slots h → shadow_owner h e t ≡ shadow_owner h a t
-      kept : (k j : ℕ) → k ≤ h → j < nodes h k → node_in S a k j ≡ tree_node S T k j → node_in S e k j ≡ tree_node S T k j
-      old : (j : ℕ) → owner c s ≡ suc j → node_in S e level j ≡ tree_node S T level j
-      others : (k j : ℕ) → (k ≡ level → ⊥) → k ≤ h → j < nodes h k → node_in S e k j ≡ node_in S a k j
-      rows : (x : ℕ) → x < lines h → part e (72 * x) 72 ≡ part a (72 * x) 72
-
-    freed-clean : dirty c s ≡ 0 → Freed a
+    freed-clean : dirty c (slot_of l i) ≡ 0 → Freed a
     freed-clean e =
         record {
           durable = v.durable;
           shadows = λ t p. refl;
           kept = λ k j p q r. r;
-          old = λ j o. v.clean s j within o e;
-          others = λ k j z p q. refl;
-          rows = λ x p. refl;
+          old = λ j p o. subst (λ (k : ℕ). node_in S a k j ≡ tree_node S T k j) (level-slot l i)
+              (v.clean (slot_of l i) j within o e);
+          lower = λ k j p q. refl;
+          rows = λ n p. refl;
         }
 
-    freed-dirty : (j : ℕ) (q : j < nodes h level) → owner c s ≡ suc j → Freed (with-node v.durable level j low q)
+    freed-dirty : (j : ℕ) (q : j < nodes h l) → owner c (slot_of l i) ≡ suc j → Freed (with-node v.durable l j w.level q)
     freed-dirty j q e =
         record {
-          durable = node-durable v.durable level j low q;
-          shadows = shadow-kept v.durable level j low q;
-          kept = fresh_kept v.durable level j low q;
-          old = λ k o. let same : j ≡ k = omega (arith, e, o) in
-              subst (λ (x : ℕ). node_in S (with-node v.durable level j low q) level x ≡ tree_node S T level x) same
-              (node-same v.durable level j low q);
-          others = λ k x z p r. other-level v.durable level j low q k x p r z;
-          rows = node_lines v.durable level j low q;
+          durable = node-durable v.durable l j w.level q;
+          shadows = shadow-kept v.durable l j w.level q;
+          kept = fresh_kept v.durable l j w.level q;
+          old = λ k p o. let same : j ≡ k = omega (arith, e, o) in
+              subst (λ (n : ℕ). node_in S (with-node v.durable l j w.level q) l n ≡ tree_node S T l n) same
+              (node-same v.durable l j w.level q);
+          lower = λ k n p r. other-level v.durable l j w.level q k n (omega (arith, w.level)) r (λ z. omega arith);
+          rows = node_lines v.durable l j w.level q;
         }
 
+    abbrev former : List Cell
+    former = evicted h c l (slot_of l i)
+
     abbrev array-freed : List ℕ
-    array-freed = put-cells a (evicted h c s)
+    array-freed = put-cells a former
 
     freed : Freed array-freed
     unfolding evicted put-cells
-    freed = by_flag (dirty c s) refl (v.fit.formed.flag s within)
+    freed = by_flag (dirty c (slot_of l i)) refl (v.fit.formed.flag (slot_of l i) within)
       where
         stored : Bool → List ℕ
-        stored t = put-cells a (cond t (node_cell h level (owner c s - 1) (content c s) ∷ []) [])
+        stored b = put-cells a (cond b (node_cell h l (owner c (slot_of l i) - 1) (content c (slot_of l i)) ∷ []) [])
 
-        filled : (x : ℕ) → owner c s ≡ x → dirty c s ≡ 1 → Freed (put-cells a (node_cell h level (x - 1) (content c s) ∷ []))
-        filled zero e d = absurd (omega (arith, d, v.fit.formed.clean s within e))
+        filled : (o : ℕ) → owner c (slot_of l i) ≡ o → dirty c (slot_of l i) ≡ 1
+            → Freed (put-cells a (node_cell h l (o - 1) (content c (slot_of l i)) ∷ []))
+        filled zero e d = absurd (omega (arith, d, v.fit.formed.clean (slot_of l i) within e))
         filled (suc j) e d =
             let index : suc j - 1 ≡ j = omega arith in
-            subst Freed (sym (ap₂ (λ (x : ℕ) (y : List ℕ). put-cells a (node_cell h level x y ∷ [])) index (v.fresh s j within e)))
-            (freed-dirty j (slot-holds h c s j v.fit.formed within e).0 e)
+            subst Freed (sym (ap₂ (λ (n : ℕ) (b : List ℕ). put-cells a (node_cell h l n b ∷ [])) index (of-level j e).1))
+            (freed-dirty j (of-level j e).0 e)
 
-        by_flag : (x : ℕ) → dirty c s ≡ x → x ≤ 1 → Freed array-freed
-        by_flag zero e p = subst Freed (sym (ap stored (ne_eqb (dirty c s) 1 (λ z. omega arith)))) (freed-clean e)
-        by_flag (suc x) e p =
-            let one : dirty c s ≡ 1 = omega arith in
-            subst Freed (sym (ap stored (eq-eqb (dirty c s) 1 one))) (filled (owner c s) refl one)
+        by_flag : (n : ℕ) → dirty c (slot_of l i) ≡ n → n ≤ 1 → Freed array-freed
+        by_flag zero e p = subst Freed (sym (ap stored (ne_eqb (dirty c (slot_of l i)) 1 (λ z. omega arith)))) (freed-clean e)
+        by_flag (suc n) e p =
+            let one : dirty c (slot_of l i) ≡ 1 = omega arith in
+            subst Freed (sym (ap stored (eq-eqb (dirty c (slot_of l i)) 1 one))) (filled (owner c (slot_of l i)) refl one)
 
-    vacant : Vacant freed.durable s n
+    -- ---- and the missing node put into it
+
+    pub not_listed : shadow_owner h a (slot_of l i) ≡ suc i → ⊥
+    not_listed o = false≢true (sym w.absent ∙ owner-holds c l i (v.listed (slot_of l i) within ∙ o))
+
+    vacant : Vacant freed.durable l i
     vacant =
         record {
-          within = within;
-          word = word;
-          old = λ j p e. freed.old j (v.listed s within ∙ sym (freed.shadows s within) ∙ e);
+          low = w.level;
+          inside = w.inside;
+          word = omega (arith, w.inside, nodes-small {h = h} l refl high);
+          old = λ j p e. freed.old j p (v.listed (slot_of l i) within ∙ sym (freed.shadows (slot_of l i) within) ∙ e);
+          topped = λ e.
+              let there = slot-within h h 0 (le_refl h) in
+              let level : l ≡ h = w.top (v.listed (top_slot h) there ∙ sym (freed.shadows (top_slot h) there) ∙ e) in
+              let index : i ≡ 0 = omega (arith, subst (λ (k : ℕ). i < nodes h k) level w.inside, nodes-top h) in
+              ap₂ slot_of level index;
         }
-
-    -- and the shadow cell after it
-    abbrev array-listed : List ℕ
-    array-listed = with-shadow freed.durable vacant
 
     abbrev pub array-next : List ℕ
-    array-next = put-cells a (slot_cells h c s n)
-
-    stored_next : array-next ≡ array-listed
-    unfolding slot_cells put-cells
-    stored_next = put-cells-append a (evicted h c s) (shadow_cell h s n ∷ [])
+    array-next = put array-freed (72 * cell_of h (shadow (slot_of l i))) (to_le 8 (suc i) ++ replicate 64 0)
 
     abbrev pub next : List ℕ
-    next = with_slot c s n 0 b
+    next = with_slot c (slot_of l i) (suc i) 0 (tree_node S T l i)
 
-    pub own_same : owner next s ≡ n
-    own_same = owner-same h c v.fit.sized s within n 0 b size word
+    size : length (tree_node S T l i) ≡ 64
+    size = tree-length S T l i
 
-    pub own-other : (t : ℕ) → (t ≡ s → ⊥) → owner next t ≡ owner c t
-    own-other = owner-other h c v.fit.sized s within n 0 b size
+    pub own_same : owner next (slot_of l i) ≡ suc i
+    own_same = owner-same h c v.fit.sized (slot_of l i) within (suc i) 0 (tree_node S T l i) size vacant.word
 
-    -- data cells, and nodes of other levels, stay as they were
-    pub rows_next : (x : ℕ) → x < lines h → part array-next (72 * x) 72 ≡ part a (72 * x) 72
-    rows_next x p = ap (λ (e : List ℕ). part e (72 * x) 72) stored_next ∙ shadow-lines freed.durable vacant x p ∙ freed.rows x p
+    pub own-other : (t : ℕ) → (t ≡ slot_of l i → ⊥) → owner next t ≡ owner c t
+    own-other = owner-other h c v.fit.sized (slot_of l i) within (suc i) 0 (tree_node S T l i) size
 
-    pub others-next : (k j : ℕ) → (k ≡ level → ⊥) → k ≤ h → j < nodes h k → node_in S array-next k j ≡ node_in S a k j
-    others-next k j z p q =
-        ap (λ (e : List ℕ). node_in S e k j) stored_next ∙ nodes-kept freed.durable vacant k j p q ∙ freed.others k j z p q
-
-    kept_next : (k j : ℕ) → k ≤ h → j < nodes h k → node_in S a k j ≡ tree_node S T k j → node_in S array-listed k j ≡ tree_node S T k j
+    kept_next : (k j : ℕ) → k ≤ h → j < nodes h k → node_in S a k j ≡ tree_node S T k j → node_in S array-next k j ≡ tree_node S T k j
     kept_next k j p q e = nodes-kept freed.durable vacant k j p q ∙ freed.kept k j p q e
 
-    listed_next : (t : ℕ) → t < slots h → (t ≡ s) ⊎ (t ≡ s → ⊥) → shadow_owner h array-listed t ≡ owner next t
+    -- data cells stay as they were
+    pub rows_next : (n : ℕ) → n < lines h → part array-next (72 * n) 72 ≡ part a (72 * n) 72
+    rows_next n p = shadow-lines freed.durable vacant n p ∙ freed.rows n p
+
+    -- nodes of lower levels stay as they were
+    pub lower-next : (k j : ℕ) → k < l → j < nodes h k → node_in S array-next k j ≡ node_in S a k j
+    lower-next k j p q = nodes-kept freed.durable vacant k j (omega (arith, w.level)) q ∙ freed.lower k j p q
+
+    listed_next : (t : ℕ) → t < slots h → (t ≡ slot_of l i) ⊎ (t ≡ slot_of l i → ⊥) → owner next t ≡ shadow_owner h array-next t
     listed_next t p (inl z) =
-        subst (λ (k : ℕ). shadow_owner h array-listed k ≡ owner next k) (sym z) (listed_same freed.durable vacant ∙ sym own_same)
+        subst (λ (k : ℕ). owner next k ≡ shadow_owner h array-next k) (sym z) (own_same ∙ sym (listed_same freed.durable vacant))
     listed_next t p (inr z) =
-        listed-other freed.durable vacant t p z ∙ freed.shadows t p ∙ sym (v.listed t p) ∙ sym (own-other t z)
+        own-other t z ∙ v.listed t p ∙ sym (freed.shadows t p) ∙ sym (listed-other freed.durable vacant t p z)
 
-    -- the node that the slot then has
-    its-owner : (t j : ℕ) → t ≡ s → owner next t ≡ suc j → n ≡ suc j
-    its-owner t j z e = sym own_same ∙ subst (λ (k : ℕ). owner next k ≡ suc j) z e
+    -- what a slot owns that is the node's own
+    its-level : (t : ℕ) → t ≡ slot_of l i → level_of t ≡ l
+    its-level t z = ap level_of z ∙ level-slot l i
 
-    fresh-next : (t j : ℕ) → t < slots h → owner next t ≡ suc j → (t ≡ s) ⊎ (t ≡ s → ⊥)
+    its-index : (t j : ℕ) → t ≡ slot_of l i → owner next t ≡ suc j → i ≡ j
+    its-index t j z o = omega (arith, own_same, subst (λ (k : ℕ). owner next k ≡ suc j) z o)
+
+    fresh-next : (t j : ℕ) → t < slots h → owner next t ≡ suc j → (t ≡ slot_of l i) ⊎ (t ≡ slot_of l i → ⊥)
         → content next t ≡ tree_node S T (level_of t) j
-    fresh-next t j p e (inl z) =
-        ap (content next) z ∙ content-same h c v.fit.sized s within n 0 b size ∙ w.fresh j (its-owner t j z e)
-        ∙ ap (λ (k : ℕ). tree_node S T (level_of k) j) (sym z)
-    fresh-next t j p e (inr z) =
-        content-other h c v.fit.sized s within n 0 b size t z ∙ v.fresh t j p (sym (own-other t z) ∙ e)
+    fresh-next t j p o (inl z) =
+        ap (content next) z ∙ content-same h c v.fit.sized (slot_of l i) within (suc i) 0 (tree_node S T l i) size
+        ∙ ap₂ (λ (k n : ℕ). tree_node S T k n) (sym (its-level t z)) (its-index t j z o)
+    fresh-next t j p o (inr z) =
+        content-other h c v.fit.sized (slot_of l i) within (suc i) 0 (tree_node S T l i) size t z
+        ∙ v.fresh t j p (sym (own-other t z) ∙ o)
 
-    module _ (fit : Fit h next) where
-      clean-next : (t j : ℕ) → t < slots h → owner next t ≡ suc j → dirty next t ≡ 0
-          → node_in S array-listed (level_of t) j ≡ tree_node S T (level_of t) j
-      clean-next t j p e d =
-          kept_next (level_of t) j (level-within h t p) (slot-holds h next t j fit.formed p e).0 (go (eq-or-not t s))
-        where
-          go : (t ≡ s) ⊎ (t ≡ s → ⊥) → node_in S a (level_of t) j ≡ tree_node S T (level_of t) j
-          go (inl z) =
-              subst (λ (k : ℕ). node_in S a (level_of k) j ≡ tree_node S T (level_of k) j) (sym z) (w.there j (its-owner t j z e))
-          go (inr z) =
-              v.clean t j p (sym (own-other t z) ∙ e) (sym (dirty-other h c v.fit.sized s within n 0 b size t z) ∙ d)
+    clean-next : (t j : ℕ) → t < slots h → owner next t ≡ suc j → dirty next t ≡ 0 → (t ≡ slot_of l i) ⊎ (t ≡ slot_of l i → ⊥)
+        → node_in S array-next (level_of t) j ≡ tree_node S T (level_of t) j
+    clean-next t j p o e (inl z) =
+        subst (λ (k : ℕ). node_in S array-next k j ≡ tree_node S T k j) (sym (its-level t z))
+        (subst (λ (n : ℕ). node_in S array-next l n ≡ tree_node S T l n) (its-index t j z o)
+        (kept_next l i w.level w.inside (v.durable.stored l i w.level w.inside not_listed)))
+    clean-next t j p o e (inr z) =
+        let o' = sym (own-other t z) ∙ o in
+        kept_next (level_of t) j (level-within h t p) (slot-holds h c t j v.fit.formed p o').0
+        (v.clean t j p o' (sym (dirty-other h c v.fit.sized (slot_of l i) within (suc i) 0 (tree_node S T l i) size t z) ∙ e))
 
-      pub live-next : Live S T o array-next next
-      live-next =
-          let listed : (t : ℕ) → t < slots h → shadow_owner h array-listed t ≡ owner next t = λ t p. listed_next t p (eq-or-not t s) in
-          subst (λ (e : List ℕ). Live S T o e next) (sym stored_next) (record {
-            durable = shadow-durable freed.durable vacant (owned-same fit.formed.owners listed);
-            fit = fit;
-            listed = λ t p. sym (listed t p);
-            fresh = λ t j p e. fresh-next t j p e (eq-or-not t s);
-            clean = clean-next;
-          })
-
-  -- a node of the map that the cache lacks: the array has it, and its slot may have it next
-  module _ (l i : ℕ) (lh : l ≤ h) (inside : i < nodes h l) (absent : holds c l i ≡ false) where
-    pub missing-there : node_in S a l i ≡ tree_node S T l i
-    missing-there =
-        v.durable.stored l i lh inside
-        (λ e. false≢true (sym absent ∙ owner-holds c l i (v.listed (slot_of l i) (slot-within h l i lh) ∙ e)))
-
-    pub missing-next : Next (slot_of l i) (suc i) (tree_node S T l i)
-    missing-next =
-        let tree : (j : ℕ) → suc i ≡ suc j → tree_node S T l i ≡ tree_node S T (level_of (slot_of l i)) j =
-        λ j e. ap₂ (tree_node S T) (sym (level-slot l i)) (suc_inj e) in
+    pub live-next : Fit h next → Live S T o array-next next
+    live-next fit =
         record {
-          within = slot-within h l i lh;
-          word = omega (arith, inside, nodes-small {h = h} l refl high);
-          size = tree-length S T l i;
-          fresh = tree;
-          there = λ j e. ap₂ (node_in S a) (level-slot l i) (sym (suc_inj e)) ∙ missing-there ∙ tree j e;
+          durable = shadow-durable freed.durable vacant;
+          fit = fit;
+          listed = λ t p. listed_next t p (eq-or-not t (slot_of l i));
+          fresh = λ t j p o. fresh-next t j p o (eq-or-not t (slot_of l i));
+          clean = λ t j p o e. clean-next t j p o e (eq-or-not t (slot_of l i));
         }
-
--- an empty cache goes with an array that lists nothing
-pub live-empty : {S : Setting} {T : Tree} {o : Opening} {a : List ℕ} → Durable S T o a
-    → ((s : ℕ) → s < slots S.h → shadow_owner S.h a s ≡ 0) → Live S T o a (empty_cache S.h)
-live-empty {S} d none =
-    let h = S.h in
-    record {
-      durable = d;
-      fit = record { sized = length-empty h; formed = formed-empty h; bytes = below-empty h };
-      listed = λ s p. owner-empty h s ∙ sym (none s p);
-      fresh = λ s i p e. absurd (omega (arith, e, owner-empty h s));
-      clean = λ s i p e z. absurd (omega (arith, e, owner-empty h s));
-    }
 
 -- a node stored as it is in the tree
 pub live-node : {S : Setting} {T : Tree} {o : Opening} {a c : List ℕ} (v : Live S T o a c) (l i : ℕ) (low : l ≤ S.h)

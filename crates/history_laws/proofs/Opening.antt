@@ -21,7 +21,7 @@ use Rattle.bits.proofs.Laws.{bits-with, with-lt}
 use Rattle.memory_map.specs.Map.{page_of, place_of, pages}
 use Rattle.counter.specs.Counter.{minor, written, turned_minor}
 use Rattle.turn_block.proofs.Laws.{turned_none, written_stands}
-use Rattle.control.specs.Control.{control_length, depth, turn_at, turn_count, turn_page, turn_mask, turn_bytes, any_open_lem, is_open}
+use Rattle.control.specs.Control.{control_length, depth, turn_at, turn_count, turn_page, turn_mask, turn_bytes, is_open}
 use Rattle.control.proofs.Laws.{same-depth, same-turn-count, same-turn-page, same-turn-mask, same_turn, length-turn}
 use Rattle.control.proofs.Laws.{turn-count-at, turn-page-at, turn-mask-at, turn-none, turn_in}
 use Rattle.history_laws.specs.History.{turned_count}
@@ -51,15 +51,6 @@ section-open {o} {k} s p = go o s.says
     go : (x : Opening) → Says x k → is_open k p ≡ opens x p
     go closed e = ap (λ (n : ℕ). eqb n 1 && eqb (turn_page k) p) e
     go (turning q js) e = ap₂ (λ (n i : ℕ). eqb n 1 && eqb i p) e.0 e.1
-
--- no page is open
-pub section-none : {o : Opening} {k : List ℕ} → Section o k → any_open_lem k ≡ false → o ≡ closed
-unfolding any_open_lem Says
-section-none {o} {k} s none = go o s.says
-  where
-    go : (x : Opening) → Says x k → x ≡ closed
-    go closed e = refl
-    go (turning p js) e = absurd (false≢true (sym none ∙ ap (λ (n : ℕ). eqb n 1) e.0))
 
 -- what the record says once the section is set
 module _ (k : List ℕ) (size : length k ≡ control_length) (n p mask : ℕ) where

@@ -7,13 +7,13 @@ use Prim.Native.Nat.{ℕ, suc, ◌+◌, ◌-◌, ◌≤◌, ◌<◌}
 use native.Mathlib.Omega.{arith}
 use borrow.Author.Tests.{ltb-true, ltb-false}
 use lib.ListN.{length}
-use lib.Seq.{take-nil, take-append-le, take-append-add}
+use lib.Seq.{take-append-le, take-append-add}
 use Rattle.words.proofs.Order.{lt-or-ge}
 use Rattle.answer.specs.declared.Answer.{Answer}
 use Rattle.answer.specs.declared.Answer.TheVariants.{Cut}
 use Rattle.control.specs.Control.{Cell}
 use Rattle.journal.specs.Journal.{Store, Media, store_all, made, is_cut}
-use Rattle.journal.proofs.Laws.{made_all, cut-made, store-none, store-append}
+use Rattle.journal.proofs.Laws.{made_all, cut-made, store-append}
 use Rattle.journal.proofs.Again.{put-cells}
 use Rattle.calls.specs.Call.{Module, Called, media_of, with_media, storing}
 use Rattle.history_laws.specs.History.{Book}
@@ -116,34 +116,23 @@ module _ {S : Setting} {b : Book} {o : Opening} {t : Book} {u : Opening} {m : Mo
 abbrev pub after_batch : Module → List Store → Module
 after_batch m xs = with_media (store_all (media_of m) xs) m.cache
 
--- no store
-pub made_none : (m : Module) (i : ℕ) → made_stores i m [] ≡ m
-made_none m i =
-    ap (λ (xs : List Store). with_media (store_all (media_of m) xs) m.cache) (take-nil i)
-    ∙ ap (λ (d : Media). with_media d m.cache) (store-none (media_of m))
-
--- stores xs and then ys, cut among the first, and among the second
-module _ (m : Module) (xs ys : List Store) where
-  pub made-first : (i : ℕ) → i ≤ length xs → made_stores i m xs ≡ made_stores i m (xs ++ ys)
-  made-first i q = ap (λ (l : List Store). with_media (store_all (media_of m) l) m.cache) (sym (take-append-le i xs ys q))
-
-  pub made-second : (i : ℕ) → length xs ≤ i → made_stores (i - length xs) (after_batch m xs) ys ≡ made_stores i m (xs ++ ys)
-  made-second i q =
+-- a batch that leaves the book as it is, and more stores after it
+module _ {S : Setting} {b : Book} {o u : Opening} {m : Module} {x : List Cell} {r : ℕ} {xs : List Store} (w : Batch S b o b u m x r xs)
+    {t : Book} {ys : List Store} {size : ℕ} {c : List ℕ} (later : Course S b t (after_batch m xs) ys size c) where
+  past : (i : ℕ) → length xs ≤ i → made_stores (i - length xs) (after_batch m xs) ys ≡ made_stores i m (xs ++ ys)
+  past i q =
       let place : length xs + (i - length xs) ≡ i = omega arith in
       ap {B = Module} (λ (d : Media). with_media d m.cache)
       (sym (store-append (media_of m) xs (made (i - length xs) ys)) ∙ ap (store_all (media_of m)) (sym (take-append-add xs ys (i - length xs)))
       ∙ ap (λ (n : ℕ). store_all (media_of m) (made n (xs ++ ys))) place)
 
--- a batch that leaves the book as it is, and more stores after it
-module _ {S : Setting} {b : Book} {o u : Opening} {m : Module} {x : List Cell} {r : ℕ} {xs : List Store} (w : Batch S b o b u m x r xs)
-    {t : Book} {ys : List Store} {size : ℕ} {c : List ℕ} (later : Course S b t (after_batch m xs) ys size c) where
   early : (i : ℕ) → i ≤ length xs + size → (i < length xs) ⊎ (length xs ≤ i) → (v : Opening) × Holds S b v (made_stores i m (xs ++ ys))
   early i q (inr l) =
-      let r = later.before (i - length xs) (omega arith) in (r.0, subst (Holds S b r.0) (made-second m xs ys i l) r.1)
+      let r = later.before (i - length xs) (omega arith) in (r.0, subst (Holds S b r.0) (past i l) r.1)
   early i q (inl l) = first (lt-or-ge (length x) i)
     where
       same : made_stores i m xs ≡ made_stores i m (xs ++ ys)
-      same = made-first m xs ys i (omega arith)
+      same = ap (λ (l : List Store). with_media (store_all (media_of m) l) m.cache) (sym (take-append-le i xs ys (omega arith)))
 
       first : (length x < i) ⊎ (i ≤ length x) → (v : Opening) × Holds S b v (made_stores i m (xs ++ ys))
       first (inl p) = (u, subst (Holds S b u) same (kept_at w i p))
@@ -153,8 +142,7 @@ module _ {S : Setting} {b : Book} {o u : Opening} {m : Module} {x : List Cell} {
   then-more =
       record {
         before = λ i q. early i q (lt-or-ge i (length xs));
-        after = λ i q. let r = later.after (i - length xs) (omega arith) in
-            (r.0, subst (Holds S t r.0) (made-second m xs ys i (omega arith)) r.1);
+        after = λ i q. let r = later.after (i - length xs) (omega arith) in (r.0, subst (Holds S t r.0) (past i (omega arith)) r.1);
         whole = (
           later.whole.0,
           subst (λ (d : Media). Ready S t later.whole.0 (with_media d c)) (sym (store-append (media_of m) xs ys)) later.whole.1,

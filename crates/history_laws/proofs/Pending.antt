@@ -14,7 +14,7 @@ use Rattle.words.proofs.Order.{lt-or-ge, lt-eq-gt}
 use Rattle.words.proofs.Parts.{length-put}
 use Rattle.words.proofs.Puts.{get_d-put-in, drop-put}
 use Rattle.memory_map.specs.Map.{cells, array_length}
-use Rattle.control.specs.Control.{Cell, control_length, turn_at, depth, count, new_root, queue, in_map_lem, valid_head, valid_turn, valid}
+use Rattle.control.specs.Control.{Cell, control_length, turn_at, depth, count, new_root, queue, in_map, valid_head, valid_turn, valid}
 use Rattle.control.proofs.Laws.{count_at_lem, same-depth, same_head, same_count, same_queue, same_turn, Valid, valid-parts, parts-valid}
 use Rattle.journal.specs.Journal.{Store, Media, store_all, finish, pending_stores, made}
 use Rattle.journal.proofs.Each.{Each, each_take}
@@ -25,13 +25,13 @@ use Rattle.calls.specs.Call.{Module, media_of, with_media}
 use Rattle.history_laws.specs.History.{Book}
 use Rattle.call_laws.proofs.Kept.{array-cells}
 use Rattle.history_laws.proofs.Setting.{Setting, Opening}
-use Rattle.history_laws.proofs.State.{finished, Settled, Holds, idle-valid}
+use Rattle.history_laws.proofs.State.{Settled, Holds, idle-valid}
 
 -- ---- the control record
 
-pub queue-valid : (k : List ℕ) (cs : List Cell) → valid_head k ≡ true → queue k ≡ cs → in_map_lem (cells (depth k)) cs ≡ true → valid_turn k ≡ true
+pub queue-valid : (k : List ℕ) (cs : List Cell) → valid_head k ≡ true → queue k ≡ cs → in_map (cells (depth k)) cs ≡ true → valid_turn k ≡ true
     → valid k ≡ true
-queue-valid k cs e q i v = parts-valid k e (ap (in_map_lem (cells (depth k))) q ∙ i) v
+queue-valid k cs e q i v = parts-valid k e (ap (in_map (cells (depth k))) q ∙ i) v
 
 pub cleared-count : (k : List ℕ) → length k ≡ control_length → count (cleared k) ≡ 0
 cleared-count k size = count_at_lem (cleared k) ∙ get_d-put-in k 15 (0 ∷ []) (omega (arith, size)) 0 (lit< tt)
@@ -59,11 +59,11 @@ module _ {S : Setting} {b : Book} {o : Opening} {m : Module} (held : Holds S b o
   few : count k ≤ 8
   few = was.head.few
 
-  in_place : in_map_lem (cells h) (queue k) ≡ true
-  in_place = subst (λ (d : ℕ). in_map_lem (cells d) (queue k) ≡ true) held.deep was.cells_in
+  in_place : in_map (cells h) (queue k) ≡ true
+  in_place = subst (λ (d : ℕ). in_map (cells d) (queue k) ≡ true) held.deep was.cells_in
 
-  in_array : in_map_lem (array_length h / 72) (queue k) ≡ true
-  in_array = ap (λ (n : ℕ). in_map_lem n (queue k)) (array-cells h (array_length h) refl) ∙ in_place
+  in_array : in_map (array_length h / 72) (queue k) ≡ true
+  in_array = ap (λ (n : ℕ). in_map n (queue k)) (array-cells h (array_length h) refl) ∙ in_place
 
   within : Each (Within (array_length h / 72)) (pending_stores k)
   within = within-pending (array_length h / 72) k held.formed.control_length held.formed.control-bytes few in_array
@@ -87,7 +87,7 @@ module _ {S : Setting} {b : Book} {o : Opening} {m : Module} (held : Holds S b o
     with-queue : drop 15 after.control ≡ drop 15 k → valid after.control ≡ true
     with-queue e =
         queue-valid after.control (queue k) (head-right (omega (arith, same_count after.control k e, few)))
-        (same_queue after.control k e) (ap (λ (d : ℕ). in_map_lem (cells d) (queue k)) deep ∙ in_place)
+        (same_queue after.control k e) (ap (λ (d : ℕ). in_map (cells d) (queue k)) deep ∙ in_place)
         (turn-right (sym (drop-drop 649 15 after.control) ∙ ap (drop 649) e ∙ drop-drop 649 15 k))
 
     cleared-valid : (r : ℕ) → after.control ≡ cleared (rooted k r) → valid after.control ≡ true
@@ -124,10 +124,6 @@ module _ {S : Setting} {b : Book} {o : Opening} {m : Module} (held : Holds S b o
             (ap (λ (xs : List Store). store_all (media_of m) (take j xs)) (pending-none k (omega arith))
             ∙ ap (store_all (media_of m)) (take-nil j) ∙ store-none (media_of m)))
 
-    -- what is pending then finishes what was begun
-    pub finished-cut : finished after ≡ finished (media_of m)
-    finished-cut = again (array_length h) (media_of m) held.formed few in_array j
-
     pub holds-cut : Holds S b o (with_media after m.cache)
     holds-cut =
         record {
@@ -136,5 +132,5 @@ module _ {S : Setting} {b : Book} {o : Opening} {m : Module} (held : Holds S b o
           formed = made_kept j held.formed within;
           right = valid-after;
           deep = deep;
-          settled = subst (Settled S b o) (sym finished-cut) held.settled;
+          settled = subst (Settled S b o) (sym (again (array_length h) (media_of m) held.formed few in_array j)) held.settled;
         }

@@ -10,7 +10,7 @@ use lib.ListN.{length}
 use Rattle.words.proofs.Digits.{Below}
 use Rattle.memory_map.specs.Map.{page_of, lines}
 use Rattle.answer.specs.declared.Answer.TheVariants.{Done, Cut, Refused}
-use Rattle.journal.specs.Journal.{Store, Media, store_all, pending_stores, made, is_cut}
+use Rattle.journal.specs.Journal.{Store, store_all, pending_stores, made, is_cut}
 use Rattle.journal.proofs.Laws.{made_all}
 use Rattle.calls.specs.Call.{Module, Called, media_of, with_media}
 use Rattle.calls.specs.Recovery.{recovery_refusal, recover_media, recover_judged, recover}
@@ -24,8 +24,8 @@ use Rattle.history_laws.proofs.Brought.{Doubt}
 use Rattle.history_laws.proofs.Recovered.{Recoverable, blocks, cache_after, all_slots, formed-after, Result, built, halted, result}
 use Rattle.history_laws.proofs.Told.{told_is}
 use Rattle.history_laws.proofs.Live.{Live}
-use Rattle.history_laws.proofs.State.{Holds, Ready, none-pending, fitted, settled-holds, tests-pass, all-bytes}
-use Rattle.history_laws.proofs.Pending.{finished-cut, holds-cut}
+use Rattle.history_laws.proofs.State.{Holds, Ready, fitted, settled-holds, tests-pass, all-bytes}
+use Rattle.history_laws.proofs.Pending.{holds-cut}
 use Rattle.history_laws.proofs.Outcome.{made_stores, cut_among}
 
 -- ---- the ways in which it ends
@@ -100,23 +100,6 @@ module _ {S : Setting} {b : Book} {o : Opening} {m : Module} (held : Holds S b o
       opened ∙ ap stored e
       ∙ ap (λ (l : List Store). recover_media keys (length xs) (with_media (store_all (media_of m) l) m.cache))
       (made_all allowance xs (ltb-false allowance (length xs) e))
-
-  -- cut or not, what is pending then brings the array to where it would have come
-  pub array-finished : (pending_made out.after).array ≡ (pending_made m).array
-  array-finished = go (is_cut allowance xs) refl
-    where
-      stands : (pending_made (pending_made m)).array ≡ (pending_made m).array
-      stands = ap (λ (x : Module). x.array) (none-pending (pending_made m) held.settled.idle)
-
-      whole : is_cut allowance xs ≡ false → Result recoverable (length xs) → (pending_made out.after).array ≡ (pending_made m).array
-      whole e (built same) = ap (λ (c : Called). (pending_made c.after).array) (not-cut e ∙ same) ∙ stands
-      whole e (halted doubt n same) = ap (λ (c : Called). (pending_made c.after).array) (not-cut e ∙ same) ∙ stands
-
-      go : (x : Bool) → is_cut allowance xs ≡ x → (pending_made out.after).array ≡ (pending_made m).array
-      go true e =
-          ap (λ (c : Called). (pending_made c.after).array) (opened ∙ ap stored e)
-          ∙ ap (λ (d : Media). d.array) (finished-cut held allowance)
-      go false e = whole e (result recoverable (length xs))
 
   pub ends : Ends S b m out
   unfolding stored_minor

@@ -10,7 +10,6 @@ use lib.Seq.{take-nil}
 use Rattle.answer.specs.declared.Answer.{Answer}
 use Rattle.answer.specs.declared.Answer.TheVariants.{Done, Blank, Cut, Refused}
 use Rattle.answer.specs.Answer.{code_of, stores_of}
-use Rattle.memory_map.specs.Map.{slots}
 use Rattle.counter.specs.Counter.{major}
 use Rattle.control.specs.Control.{Cell, family, depth, root}
 use Rattle.cache.specs.declared.Found.{Found}
@@ -25,7 +24,6 @@ use Rattle.calls.specs.Read.{blank_text, answered, refused_read, line_minor, sid
 use Rattle.calls.specs.Write.{write_stores, written_cache, write_loaded, write_path, write_judged, write}
 use Rattle.calls.specs.Turn.{turn_refusal, block_of, turn_places, bad_line, turn_batches, stores_for, turned_cache}
 use Rattle.calls.specs.Turn.{turn_checked, turn_loaded, turn_path, turn_judged, turn, page_path}
-use Rattle.calls.specs.Park.{park_refusal, park_stores, park_judged, park}
 use Rattle.calls.specs.Recovery.{refuse_after, Forwarded, so_far, failed, rebuild_blocks, rebuild_nodes}
 use Rattle.calls.specs.Recovery.{recovery_refusal, recover_root, recover_rebuilt, recover_shadow, recover_media, recover_judged, recover}
 use Rattle.history_laws.proofs.Outcome.{no-elements, made_stores, cut_among, cases}
@@ -43,10 +41,6 @@ blank-not {n = n} e = let z : ◌≡◌ {A = ℕ} 1 (100 + n) = ap code_of e in 
 pub cut-not : {k n j a b : ℕ} → Cut k ≡ Refused n j a b → ⊥
 unfolding code_of
 cut-not {n = n} e = let z : ◌≡◌ {A = ℕ} 2 (100 + n) = ap code_of e in omega arith
-
-pub cut-done : {n k t : ℕ} → Cut n ≡ Done k t → ⊥
-unfolding code_of
-cut-done e = let z : ◌≡◌ {A = ℕ} 2 0 = ap code_of e in omega arith
 
 -- ---- the calls
 
@@ -140,20 +134,6 @@ module _ (m : Module) where
         go : (k : ℕ) → Same m (turn_judged k keys p allowance m)
         go zero = turn-path (page_path keys p m)
         go (suc k) = λ n a b e. refl
-
-  pub park-same : (keys : List ℕ) (allowance : ℕ) → Same m (park keys allowance m)
-  unfolding park_judged
-  park-same keys allowance = go (park_refusal keys m)
-    where
-      h : ℕ
-      h = depth m.control
-
-      xs : List Store
-      xs = park_stores h (root m.control) m.cache 0 (slots h)
-
-      go : (k : ℕ) → Same m (park_judged k allowance m)
-      go zero = storing-same allowance xs (Done (length xs) 0) (empty_cache h) (λ n a b e. done-not e)
-      go (suc k) = λ n a b e. refl
 
 -- ---- recovery: what it refuses after its stores leaves what they left
 

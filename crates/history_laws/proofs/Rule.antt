@@ -4,36 +4,37 @@ use mathlib.Core.Path.{◌≡◌, refl, sym, ap, ap₂, ◌∙◌, subst}
 use mathlib.Core.Bool.{Bool, true, false, not, cond}
 use mathlib.Core.List.{List, ◌∷◌, ◌++◌}
 use mathlib.Core.Option.{Option, none, some}
-use Prim.Native.Nat.{ℕ, ◌+◌, ◌-◌, ◌*◌, ◌≤◌, ◌<◌, zero-le}
+use Prim.Native.Nat.{ℕ, zero, suc, ◌+◌, ◌-◌, ◌*◌, ◌≤◌, ◌<◌, zero-le}
 use native.Mathlib.Omega.{arith}
 use lib.ListN.{length}
 use Rattle.memory_map.specs.Map.{page_of, place_of, lines}
 use Rattle.memory_map.proofs.Laws.{nodes-bottom, page-inside}
 use Rattle.counter.specs.Counter.{minor, lag}
 use Rattle.answer.specs.declared.Answer.{Answer}
-use Rattle.answer.specs.declared.Answer.TheVariants.{Done, Refused}
+use Rattle.answer.specs.declared.Answer.TheVariants.{Done, Cut, Refused}
 use Rattle.answer.specs.Answer.{code_of, stores_of, first_of}
 use Rattle.control.specs.Control.{is_open}
 use Rattle.cache.specs.Cache.{formed}
 use Rattle.cache.proofs.Laws.{facts-formed}
 use Rattle.journal.specs.Journal.{Store, is_cut}
-use Rattle.calls.specs.Call.{Module, Called, NotCut, media_of, storing, judged, access_refusal}
+use Rattle.calls.specs.Call.{Module, Called, NotCut, media_of, storing, judged, access_refusal, refuse}
 use Rattle.calls.specs.Read.{Reading, answered, read}
 use Rattle.calls.specs.Recovery.{recover}
-use Rattle.calls.specs.Format.{format, counts_from}
+use Rattle.calls.specs.Format.{format_refusal, formatted, format, counts_from}
 use Rattle.history_laws.specs.History.{Event, recovers, Book, empty_book, AreBytes, Allowed, module_after, book_of, counter}
 use Rattle.history_laws.specs.History.{stored_minor, total, Gives, Restored, NotRefused, pending_made, OnlyCounts, Returns, HistoryRule}
-use Rattle.call_laws.proofs.Judged.{entry-on}
+use Rattle.call_laws.proofs.Judged.{entry-on, format-accepted}
 use Rattle.history_laws.proofs.Setting.{Setting, Opening}
 use Rattle.history_laws.proofs.Opening.{closed-line}
 use Rattle.history_laws.proofs.Tree.{counts-agree, fresh-minor}
 use Rattle.history_laws.proofs.Live.{live-current}
 use Rattle.history_laws.proofs.State.{Settled, Holds, Ready, settled-now, tests-pass}
+use Rattle.history_laws.proofs.First.{first-ready}
 use Rattle.history_laws.proofs.Outcome.{cut_among, all_stored}
 use Rattle.history_laws.proofs.Reading.{Access, walk, stores, reads-blank, reads-text}
 use Rattle.history_laws.proofs.Recovery.{Ends, cut, rebuilt, doubted, ends}
-use Rattle.history_laws.proofs.Refused.{done-not, cut-not, cut-done}
-use Rattle.history_laws.proofs.Begun.{begun}
+use Rattle.history_laws.proofs.Refused.{done-not, cut-not}
+use Rattle.history_laws.proofs.Events.{ready-inv, led}
 
 -- ---- what a read shows
 
@@ -122,6 +123,10 @@ module _ {S : Setting} {b : Book} {o : Opening} {m : Module} (r : Ready S b o m)
 
 -- ---- the rule
 
+cut-done : {n k t : ℕ} → Cut n ≡ Done k t → ⊥
+unfolding code_of
+cut-done e = let z : ◌≡◌ {A = ℕ} 2 0 = ap code_of e in omega arith
+
 module _ {S : Setting} {b : Book} {m : Module} where
   open S use {keys, h, family}
 
@@ -151,9 +156,32 @@ module _ {S : Setting} {b : Book} {m : Module} where
   returns out e = record { not_refused = never-refused out e; refused = only-several out e; restores = restores out e }
 
 pub history-rule : HistoryRule
-unfolding HistoryRule
-history-rule keys h f given es rest allowance plain done ok =
-    returns _ (ends (begun keys h f given plain done es (recovers keys allowance ∷ rest) ok).inv.holds allowance)
+unfolding HistoryRule format formatted
+history-rule keys h f given es rest allowance plain = go (format_refusal keys h f given) refl
+  where
+    first : ℕ → Called
+    first k = elim k as (λ z. Called) [ zero ↦ formatted keys h f | suc n ↦ refuse given (suc n) 0 0 ]
+
+    go : (k : ℕ) → format_refusal keys h f given ≡ k → (first k).answer ≡ Done 0 0
+        → Allowed keys false (first k).after (es ++ (recovers keys allowance ∷ rest))
+        → Returns keys h f (book_of (first k).after empty_book es) (module_after (first k).after es)
+        (recover keys allowance (module_after (first k).after es))
+    go (suc n) e nay ok = absurd (done-not (sym nay))
+    go zero e yea ok =
+        let y = format-accepted keys h f given e in
+        let S : Setting =
+        record {
+          keys = keys;
+          keyed = record { at = plain };
+          keys_length = y.keys_length;
+          h = h;
+          low = y.low;
+          high = y.high;
+          family = f;
+          known = y.family;
+        } in
+        let l = led S es (recovers keys allowance ∷ rest) false empty_book _ (ready-inv S (first-ready S)) ok in
+        returns _ (ends l.inv.holds allowance)
 
 -- ---- what it comes to for family 0: no recovery with the same keys is refused, and there is no premise
 

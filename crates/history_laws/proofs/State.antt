@@ -11,7 +11,7 @@ use Rattle.words.proofs.Digits.{Below}
 use Rattle.memory_map.specs.Map.{lines, cells, array_length}
 use Rattle.slot_map.specs.Slots.{cache_length}
 use Rattle.cache.specs.Cache.{cell_bytes}
-use Rattle.control.specs.Control.{family, depth, root, count, places, queue, in_map_lem, valid_head, valid_turn, valid}
+use Rattle.control.specs.Control.{family, depth, root, count, places, queue, in_map, valid_head, valid_turn, valid}
 use Rattle.control.proofs.Laws.{parts-valid}
 use Rattle.journal.specs.Journal.{Media, store_all, pending_stores}
 use Rattle.journal.proofs.Laws.{pending-none, store-none}
@@ -92,7 +92,7 @@ module _ (S : Setting) where
     pub live : Live S (tree_of b) o m.array m.cache
 
 -- where nothing is pending
-pub finished-idle : (d : Media) → count d.control ≡ 0 → finished d ≡ d
+finished-idle : (d : Media) → count d.control ≡ 0 → finished d ≡ d
 finished-idle d e = ap (store_all d) (pending-none d.control e) ∙ store-none d
 
 -- so its stores leave the module as it is
@@ -100,8 +100,8 @@ pub none-pending : (m : Module) → count m.control ≡ 0 → pending_made m ≡
 none-pending m e = ap (λ (d : Media). with_media d m.cache) (finished-idle (media_of m) e)
 
 pub idle-valid : (k : List ℕ) → valid_head k ≡ true → count k ≡ 0 → valid_turn k ≡ true → valid k ≡ true
-unfolding queue places in_map_lem
-idle-valid k e z v = parts-valid k e (ap (λ (n : ℕ). in_map_lem (cells (depth k)) (places k 24 n)) z) v
+unfolding queue places in_map
+idle-valid k e z v = parts-valid k e (ap (λ (n : ℕ). in_map (cells (depth k)) (places k 24 n)) z) v
 
 module _ {S : Setting} {b : Book} {o : Opening} where
   open S use {h}

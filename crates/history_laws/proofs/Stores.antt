@@ -1,7 +1,8 @@
 -- What one stored cell leaves, and that an array stays what recovery asks for: under the cell of a node as the fresh tree has it, which is
--- what an eviction and a stop-loss store, and under a shadow cell that lists another owner, or none. Assumes nothing.
+-- what an eviction and a stop-loss store, and under the shadow cell of a loaded node. Assumes nothing.
 use mathlib.Core.Path.{◌≡◌, refl, sym, ap, ap₂, ◌∙◌, subst}
 use mathlib.Core.Logic.{◌⊎◌, inl, inr}
+use mathlib.Core.Bool.{true}
 use mathlib.Core.List.{List, ◌++◌}
 use Prim.Native.Nat.{ℕ, suc, ◌+◌, ◌*◌, ◌^◌, ◌≤◌, ◌<◌, zero-le}
 use native.Mathlib.Nat.{le_refl}
@@ -17,11 +18,11 @@ use Rattle.words.proofs.Puts.{part-put-in, part-put-before, part-put-after}
 use Rattle.memory_map.specs.Map.{pages, lines, nodes, slots, array_length, cell_of, InMap, Item}
 use Rattle.memory_map.specs.Map.Item.{line, node, shadow}
 use Rattle.memory_map.proofs.Laws.{cell-within, cell-injective, nodes-bottom}
-use Rattle.slot_map.specs.Slots.{slot_of, level_of}
-use Rattle.slot_map.proofs.Laws.{slot-within, level-slot}
+use Rattle.slot_map.specs.Slots.{slot_of, level_of, belongs}
+use Rattle.slot_map.proofs.Laws.{slot-within, level-slot, node-belongs}
 use Rattle.counter.specs.Counter.{major, minor, lag}
-use Rattle.cache.specs.Cache.{cell_bytes, cell_content, shadow_owner}
-use Rattle.cache.proofs.Laws.{Owned, owned-same}
+use Rattle.cache.specs.Cache.{cell_bytes, cell_content, shadow_owner, top_slot}
+use Rattle.cache.proofs.Laws.{owned-same}
 use Rattle.history_laws.proofs.Setting.{Setting, Tree, tree_node, node_in, Opening}
 use Rattle.history_laws.proofs.Tree.{tree-length, fresh-major, fresh-minor}
 use Rattle.history_laws.proofs.Durable.{Spare, Durable}
@@ -249,40 +250,42 @@ module _ {S : Setting} {T : Tree} {o : Opening} {a : List ℕ} (m : Durable S T 
         stored k j p q o (inl e) = absurd (o (shadow-kept (slot_of k j) (slot-within h k j p) ∙ e))
         stored k j p q o (inr e) = fresh_kept k j p q (m.stored k j p q e)
 
-  -- ---- a shadow cell that changes
+  -- ---- a loaded node listed
 
-  -- slot s and its next owner, 0 for none: the array has the former owner's cell as the tree does
-  pub record Vacant (s n : ℕ) : Type 0 where
-    pub within : s < slots h
-    pub word : n < 2 ^ 64
-    pub old : (j : ℕ) → j < nodes h (level_of s) → shadow_owner h a s ≡ suc j → node_in S a (level_of s) j ≡ tree_node S T (level_of s) j
+  -- the slot of a node, whose former owner the array has, and which is the top's where that is empty
+  pub record Vacant (l i : ℕ) : Type 0 where
+    pub low : l ≤ h
+    pub inside : i < nodes h l
+    pub word : suc i < 2 ^ 64
+    pub old : (j : ℕ) → j < nodes h l → shadow_owner h a (slot_of l i) ≡ suc j → node_in S a l j ≡ tree_node S T l j
+    pub topped : shadow_owner h a (top_slot h) ≡ 0 → slot_of l i ≡ top_slot h
 
-  module _ {s n : ℕ} (v : Vacant s n) where
+  module _ {l i : ℕ} (v : Vacant l i) where
     abbrev shadow-bytes : List ℕ
-    shadow-bytes = to_le 8 n ++ replicate 64 0
+    shadow-bytes = to_le 8 (suc i) ++ replicate 64 0
 
     abbrev pub with-shadow : List ℕ
-    with-shadow = put a (72 * cell_of h (shadow s)) shadow-bytes
+    with-shadow = put a (72 * cell_of h (shadow (slot_of l i))) shadow-bytes
 
-    u : Put h a (shadow s) shadow-bytes
+    u : Put h a (shadow (slot_of l i)) shadow-bytes
     u =
         record {
           whole = m.whole;
-          inside = in-shadow h s v.within;
-          size = length-append (to_le 8 n) (replicate 64 0) ∙ ap (λ (k : ℕ). k + 64) (length_digits 256 8 n);
+          inside = in-shadow h (slot_of l i) (slot-within h l i v.low);
+          size = length-append (to_le 8 (suc i)) (replicate 64 0) ∙ ap (λ (n : ℕ). n + 64) (length_digits 256 8 (suc i));
         }
 
-    pub shadow-lines : (x : ℕ) → x < lines h → part with-shadow (72 * x) 72 ≡ part a (72 * x) 72
+    pub shadow-lines : (n : ℕ) → n < lines h → part with-shadow (72 * n) 72 ≡ part a (72 * n) 72
     unfolding kind
     shadow-lines = lines-apart u (λ (q : ◌≡◌ {A = ℕ} 2 0). omega arith)
 
-    pub listed_same : shadow_owner h with-shadow s ≡ n
+    pub listed_same : shadow_owner h with-shadow (slot_of l i) ≡ suc i
     unfolding shadow_owner
     listed_same =
-        ap from_le (same-part u 8 (omega arith) ∙ take_at (to_le 8 n) (replicate 64 0) 8 (length_digits 256 8 n))
-        ∙ number-exact 256 8 n (lit< tt) v.word
+        ap from_le (same-part u 8 (omega arith) ∙ take_at (to_le 8 (suc i)) (replicate 64 0) 8 (length_digits 256 8 (suc i)))
+        ∙ number-exact 256 8 (suc i) (lit< tt) v.word
 
-    pub listed-other : (t : ℕ) → t < slots h → (t ≡ s → ⊥) → shadow_owner h with-shadow t ≡ shadow_owner h a t
+    pub listed-other : (t : ℕ) → t < slots h → (t ≡ slot_of l i → ⊥) → shadow_owner h with-shadow t ≡ shadow_owner h a t
     unfolding first
     listed-other t p e = shadow-apart u t p (λ z. e (ap first z))
 
@@ -290,33 +293,46 @@ module _ {S : Setting} {T : Tree} {o : Opening} {a : List ℕ} (m : Durable S T 
     unfolding kind
     nodes-kept = nodes-apart u (λ (z : ◌≡◌ {A = ℕ} 2 1). omega arith)
 
+    belong : (t j : ℕ) → t < slots h → shadow_owner h with-shadow t ≡ suc j → (t ≡ slot_of l i) ⊎ (t ≡ slot_of l i → ⊥)
+        → belongs h t (suc j) ≡ true
+    belong t j p e (inl z) =
+        let same : i ≡ j = omega (arith, listed_same, subst (λ (k : ℕ). shadow_owner h with-shadow k ≡ suc j) z e) in
+        ap₂ (λ (k n : ℕ). belongs h k (suc n)) z (sym same) ∙ node-belongs h l i v.inside
+    belong t j p e (inr z) = m.owners.belong t j p (sym (listed-other t p z) ∙ e)
+
+    top-there : shadow_owner h with-shadow (top_slot h) ≡ 0 → (top_slot h ≡ slot_of l i) ⊎ (top_slot h ≡ slot_of l i → ⊥) → ⊥
+    top-there e (inl z) = omega (arith, listed_same, subst (λ (k : ℕ). shadow_owner h with-shadow k ≡ 0) z e)
+    top-there e (inr z) = z (sym (v.topped (sym (listed-other (top_slot h) (slot-within h h 0 (le_refl h)) z) ∙ e)))
+
     stored : (k j : ℕ) → k ≤ h → j < nodes h k → (shadow_owner h with-shadow (slot_of k j) ≡ suc j → ⊥)
         → (shadow_owner h a (slot_of k j) ≡ suc j) ⊎ (shadow_owner h a (slot_of k j) ≡ suc j → ⊥)
-        → (slot_of k j ≡ s) ⊎ (slot_of k j ≡ s → ⊥) → node_in S a k j ≡ tree_node S T k j
+        → (slot_of k j ≡ slot_of l i) ⊎ (slot_of k j ≡ slot_of l i → ⊥) → node_in S a k j ≡ tree_node S T k j
     stored k j p q o (inr e) z = m.stored k j p q e
     stored k j p q o (inl e) (inr z) = absurd (o (listed-other (slot_of k j) (slot-within h k j p) z ∙ e))
     stored k j p q o (inl e) (inl z) =
-        let level : k ≡ level_of s = sym (level-slot k j) ∙ ap level_of z in
-        subst (λ (l : ℕ). node_in S a l j ≡ tree_node S T l j) (sym level)
-        (v.old j (subst (λ (l : ℕ). j < nodes h l) level q) (ap (shadow_owner h a) (sym z) ∙ e))
+        let level : k ≡ l = sym (level-slot k j) ∙ ap level_of z ∙ level-slot l i in
+        subst (λ (n : ℕ). node_in S a n j ≡ tree_node S T n j) (sym level)
+        (v.old j (subst (λ (n : ℕ). j < nodes h n) level q) (ap (shadow_owner h a) (sym z) ∙ e))
 
     page-there : (p : ℕ) → p < pages h → node_in S with-shadow 0 p ≡ node_in S a 0 p
     page-there p q = nodes-kept 0 p zero-le (page-in h p q)
 
-    -- where the owners are formed then
-    pub shadow-durable : Owned h (shadow_owner h with-shadow) → Durable S T o with-shadow
+    pub shadow-durable : Durable S T o with-shadow
     unfolding Spare
-    shadow-durable owners =
+    shadow-durable =
         record {
           whole = length-after u ∙ m.whole;
           small = m.small;
-          owners = owners;
+          owners = record {
+            belong = λ t j p e. belong t j p e (eq-or-not t (slot_of l i));
+            top = λ e t p. absurd (top-there e (eq-or-not (top_slot h) (slot_of l i)));
+          };
           stored = λ k j p q o. nodes-kept k j p q
-              ∙ stored k j p q o (eq-or-not (shadow_owner h a (slot_of k j)) (suc j)) (eq-or-not (slot_of k j) s);
+              ∙ stored k j p q o (eq-or-not (shadow_owner h a (slot_of k j)) (suc j)) (eq-or-not (slot_of k j) (slot_of l i));
           majors = λ p q. ap major (page-there p q) ∙ m.majors p q;
           behind = λ p j q r. subst (λ (b : List ℕ). minor b j ≤ count (64 * p + j)) (sym (page-there p q)) (m.behind p j q r);
           near = λ p j q r. subst (λ (b : List ℕ). count (64 * p + j) ≤ minor b j + lag (count (64 * p + j))) (sym (page-there p q))
               (m.near p j q r);
           open_block = λ p q e. page-there p q ∙ m.open_block p q e;
-          spare = spare-put u m.spare (drop_at (to_le 8 n) (replicate 64 0) 8 (length_digits 256 8 n));
+          spare = spare-put u m.spare (drop_at (to_le 8 (suc i)) (replicate 64 0) 8 (length_digits 256 8 (suc i)));
         }

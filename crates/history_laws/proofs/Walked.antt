@@ -3,7 +3,7 @@
 use mathlib.Core.Path.{◌≡◌, refl, sym, ap, ap₂, ◌∙◌, subst}
 use mathlib.Core.Logic.{◌⊎◌, inl, inr}
 use mathlib.Core.Bool.{Bool, true, false, cond}
-use mathlib.Core.List.{List, [], ◌++◌}
+use mathlib.Core.List.{List, [], ◌∷◌, ◌++◌}
 use Prim.Native.Nat.{ℕ, zero, suc, ◌-◌, ◌*◌, ◌≤◌, ◌<◌}
 use native.Mathlib.Nat.{le_refl, suc_inj}
 use native.Mathlib.Omega.{arith}
@@ -21,12 +21,11 @@ use Rattle.control.specs.Control.{Cell}
 use Rattle.cache.specs.Cache.{owner, content, with_slot, top_slot, holds}
 use Rattle.cache.proofs.Laws.{holds-owner}
 use Rattle.journal.proofs.Again.{put-cells, put-cells-append}
-use Rattle.calls.specs.Path.{child_tag, slot_cells, Loaded, loaded, differs, load_node, load_levels, load_path}
+use Rattle.calls.specs.Path.{child_tag, evicted, shadow_cell, Loaded, loaded, differs, load_node, load_levels, load_path}
 use Rattle.call_laws.proofs.Loads.{Fit, slot-fit}
 use Rattle.history_laws.proofs.Setting.{Setting, Tree, tree_node, tree_root, node_in, tag_of, Opening}
 use Rattle.history_laws.proofs.Tree.{child-fresh}
-use Rattle.history_laws.proofs.Live.{Live, Next, own_same, own-other, live-next, others-next, rows_next}
-use Rattle.history_laws.proofs.Live.{missing-there, missing-next}
+use Rattle.history_laws.proofs.Live.{Live, Missing, not_listed, own_same, own-other, array-next, live-next, lower-next, rows_next}
 
 -- the bytes of an array
 pub record Array (S : Setting) (a : List ℕ) : Type 0 where
@@ -56,7 +55,7 @@ module _ {S : Setting} (T : Tree) (o : Opening) {base : List ℕ} (ok : Array S 
     b = node_in S base l i
 
     abbrev batch : List Cell
-    batch = slot_cells h c (slot_of l i) (suc i)
+    batch = evicted h c l (slot_of l i) ++ (shadow_cell h (slot_of l i) (suc i) ∷ [])
 
     chosen : Bool → Bool → List ℕ → Loaded
     chosen x y n = cond x (loaded c []) (cond y (loaded (with_slot c (slot_of l i) (suc i) 0 n) batch) (differs l i))
@@ -76,11 +75,11 @@ module _ {S : Setting} (T : Tree) (o : Opening) {base : List ℕ} (ok : Array S 
         }
 
     module _ (absent : holds c l i ≡ false) where
-      missing : Next v (slot_of l i) (suc i) (tree_node S T l i)
-      missing = missing-next v l i lh inside absent
+      missing : Missing v l i
+      missing = record { level = lh; inside = inside; absent = absent; top = top }
 
       fresh : b ≡ tree_node S T l i
-      fresh = there ∙ missing-there v l i lh inside absent
+      fresh = there ∙ v.durable.stored l i lh inside (not_listed v missing)
 
       abbrev with_it : List ℕ
       with_it = with_slot c (slot_of l i) (suc i) 0 (tree_node S T l i)
@@ -98,17 +97,21 @@ module _ {S : Setting} (T : Tree) (o : Opening) {base : List ℕ} (ok : Array S 
           subst (λ (n : List ℕ). Fit h (with_slot c (slot_of l i) (suc i) 0 n)) fresh
           (slot-fit h high base ok.whole ok.plain c v.fit l i lh inside top)
 
+      stored : put-cells a batch ≡ array-next v missing
+      unfolding put-cells
+      stored = put-cells-append a (evicted h c l (slot_of l i)) (shadow_cell h (slot_of l i) (suc i) ∷ [])
+
       load : Step a c l i t
       load =
           record {
             cache = with_it;
             cells = batch;
             same = loads;
-            live = live-next v missing fits;
+            live = subst (λ (n : List ℕ). Live S T o n with_it) (sym stored) (live-next v missing fits);
             held = own_same v missing;
             others = λ k j z. own-other v missing (slot_of k j) (λ e. z (sym (level-slot k j) ∙ ap level_of e ∙ level-slot l i));
-            lower = λ k j p q. others-next v missing k j (λ e. omega (arith, level-slot l i, e)) (omega (arith, lh)) q;
-            rows = rows_next v missing;
+            lower = λ k j p q. ap (λ (n : List ℕ). node_in S n k j) stored ∙ lower-next v missing k j p q;
+            rows = λ n p. ap (λ (a : List ℕ). part a (72 * n) 72) stored ∙ rows_next v missing n p;
           }
 
     load_step : Step a c l i t

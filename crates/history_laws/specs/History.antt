@@ -17,7 +17,6 @@ use Rattle.calls.specs.Call.{Module, Called, NotCut, media_of, with_media}
 use Rattle.calls.specs.Read.{Reading, blank_text, read}
 use Rattle.calls.specs.Write.{write}
 use Rattle.calls.specs.Turn.{turn, page_path, before_finished}
-use Rattle.calls.specs.Park.{park}
 use Rattle.calls.specs.Recovery.{recover}
 use Rattle.calls.specs.Format.{format, fresh_node, fresh_root, counts_from}
 use Rattle.calls.specs.DirtyPages.{dirty_pages}
@@ -28,7 +27,6 @@ pub data Event : Type 0 where
   reads : List ℕ → ℕ → ℕ → List ℕ → Event
   writes : List ℕ → ℕ → List ℕ → ℕ → Event
   turns : List ℕ → ℕ → ℕ → Event
-  parks : List ℕ → ℕ → Event
   recovers : List ℕ → ℕ → Event
   lists : List ℕ → Event
   formats : List ℕ → ℕ → ℕ → Event
@@ -39,7 +37,6 @@ unfoldable pub step : Event → Module → Called
 step (reads keys line allowance out) m = (read keys line allowance out m).called
 step (writes keys line text allowance) m = write keys line text allowance m
 step (turns keys p allowance) m = turn keys p allowance m
-step (parks keys allowance) m = park keys allowance m
 step (recovers keys allowance) m = recover keys allowance m
 step (lists out) m = record { answer = (dirty_pages m.control m.cache out).answer; after = m }
 step (formats keys h f) m = format keys h f m
@@ -93,7 +90,6 @@ book_after (writes keys line text allowance) m b =
     entered (commits (write keys line text allowance m).answer (stores_of (write keys line text (2 ^ 64 - 1) m).answer)) line text b
 book_after (turns keys p allowance) m b =
     turn_entered (finishes (turn keys p allowance m).answer (before_finished keys p m (page_path keys p m))) p b
-book_after (parks keys allowance) m b = b
 book_after (recovers keys allowance) m b = b
 book_after (lists out) m b = b
 book_after (formats keys h f) m b = b
@@ -118,8 +114,6 @@ Admitted keys awaited m (writes given line text allowance) =
     × AreBytes given × (line < 2 ^ 64) × AreBytes text × (allowance < 2 ^ 64)
 Admitted keys awaited m (turns given p allowance) =
     (awaited ≡ false) × Keyed keys given (turn given p allowance m).answer × AreBytes given × (p < 2 ^ 64) × (allowance < 2 ^ 64)
-Admitted keys awaited m (parks given allowance) =
-    (awaited ≡ false) × Keyed keys given (park given allowance m).answer × AreBytes given × (allowance < 2 ^ 64)
 Admitted keys awaited m (recovers given allowance) =
     Keyed keys given (recover given allowance m).answer × AreBytes given × (allowance < 2 ^ 64)
 Admitted keys awaited m (lists out) = (awaited ≡ false) × AreBytes out

@@ -14,7 +14,7 @@ use Rattle.words.proofs.Digits.{length_digits}
 use Rattle.words.proofs.Order.{lt-or-ge, lt-eq-gt}
 use Rattle.words.proofs.Parts.{length-put}
 use Rattle.words.proofs.Puts.{drop-put, part-put-same, part-put-before, get_d_part, put-put, put-comm}
-use Rattle.control.specs.Control.{Cell, control_length, turn_at, queue, count, new_root, in_map_lem}
+use Rattle.control.specs.Control.{Cell, control_length, turn_at, queue, count, new_root, in_map}
 use Rattle.control.proofs.Laws.{count_at_lem, same_count, same-new-root, same_queue}
 use Rattle.journal.specs.Journal.{Store, Media, media, store, store_all, finish, batch_stores, pending_stores, made}
 use Rattle.journal.specs.Journal.Store.{cell, root, clear}
@@ -49,11 +49,11 @@ record Inside (n : ℕ) (c : Cell) : Type 0 where
   size : length c.bytes ≡ 72
   fits : 72 * c.number + 72 ≤ n
 
-inside-cells : (n : ℕ) {cs : List Cell} → Each Whole cs → in_map_lem (n / 72) cs ≡ true → Each (Inside n) cs
-unfolding in_map_lem
+inside-cells : (n : ℕ) {cs : List Cell} → Each Whole cs → in_map (n / 72) cs ≡ true → Each (Inside n) cs
+unfolding in_map
 inside-cells n none e = none
 inside-cells n (more {x = c} {xs = cs} w ws) e =
-    let both = (and-eq-true_iff (ltb c.number (n / 72)) (in_map_lem (n / 72) cs)).0 e in
+    let both = (and-eq-true_iff (ltb c.number (n / 72)) (in_map (n / 72) cs)).0 e in
     more {x = c} (record { size = w.size; fits = omega (arith, ltb-true c.number (n / 72) both.0) }) (inside-cells n ws both.1)
 
 module _ (n : ℕ) where
@@ -145,7 +145,7 @@ module _ (k : List ℕ) (size : length k ≡ control_length) where
       ∙ ap (λ (l : List ℕ). get_or l 0 0) (part-put-same k 15 (0 ∷ []) (omega arith) 1 refl))
 
 -- what is pending of a formed array and control record: each pending cell lies in the array
-module _ (size : ℕ) (m : Media) (f : Formed size m) (few : count m.control ≤ 8) (e : in_map_lem (size / 72) (queue m.control) ≡ true) where
+module _ (size : ℕ) (m : Media) (f : Formed size m) (few : count m.control ≤ 8) (e : in_map (size / 72) (queue m.control) ≡ true) where
   abbrev cs : List Cell
   cs = queue m.control
 
@@ -236,7 +236,7 @@ module _ (size : ℕ) (m : Media) (f : Formed size m) (few : count m.control ≤
 -- ---- a batch that was cut
 
 module _ (size : ℕ) (a k : List ℕ) (cs : List Cell) (r : ℕ) (f : Formed size (media a k)) (ws : Each Whole cs)
-    (e : in_map_lem (size / 72) cs ≡ true) (some : 0 < length cs) (few : length cs ≤ 8) where
+    (e : in_map (size / 72) cs ≡ true) (some : 0 < length cs) (few : length cs ≤ 8) where
   -- before the commit, array, fields and the section of a turn are as they were
   pub batch-dropped : (n : ℕ) → n ≤ length cs
       → ((store_all (media a k) (made n (batch_stores cs r))).array ≡ a)

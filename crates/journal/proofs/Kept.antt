@@ -14,7 +14,7 @@ use Rattle.words.proofs.Digits.{Below, below-nil, below-cons, below-append, belo
 use Rattle.words.proofs.Parts.{length-put, below_put}
 use Rattle.words.proofs.Order.{lt-eq-gt}
 use Rattle.words.proofs.Puts.{part-put-before, part-put-after}
-use Rattle.control.specs.Control.{Cell, control_length, place_at, queue, count, new_root, in_map_lem}
+use Rattle.control.specs.Control.{Cell, control_length, place_at, queue, count, new_root, in_map}
 use Rattle.journal.specs.Journal.{Store, Media, media, store, store_all, stages, finish, batch_stores, turn_stores, pending_stores, made}
 use Rattle.journal.specs.Journal.Store.{stage, commit, commit_turn, cell, root, clear}
 use Rattle.journal.proofs.Each.{Each, none, more, each_append, each_take}
@@ -43,18 +43,18 @@ unfolding stages Within
 within-stages bound j none h = none
 within-stages bound j (more {x = c} w ws) h = more {x = stage j c} (omega arith, w) (within-stages bound (suc j) ws (omega arith))
 
-within-cells : (bound : ℕ) {cs : List Cell} → Each Whole cs → in_map_lem bound cs ≡ true → Each (Within bound) (map cell cs)
-unfolding in_map_lem Within
+within-cells : (bound : ℕ) {cs : List Cell} → Each Whole cs → in_map bound cs ≡ true → Each (Within bound) (map cell cs)
+unfolding in_map Within
 within-cells bound none e = none
 within-cells bound (more {x = c} {xs = cs} w ws) e =
-    let both = (and-eq-true_iff (ltb c.number bound) (in_map_lem bound cs)).0 e in
+    let both = (and-eq-true_iff (ltb c.number bound) (in_map bound cs)).0 e in
     more {x = cell c} (ltb-true c.number bound both.0, w) (within-cells bound ws both.1)
 
-pub within-finish : (bound r : ℕ) {cs : List Cell} → Each Whole cs → in_map_lem bound cs ≡ true → Each (Within bound) (finish cs r)
+pub within-finish : (bound r : ℕ) {cs : List Cell} → Each Whole cs → in_map bound cs ≡ true → Each (Within bound) (finish cs r)
 unfolding finish Within
 within-finish bound r ws e = each_append (within-cells bound ws e) (more {x = root r} tt (more {x = clear} tt none))
 
-pub within-batch : (bound r : ℕ) {cs : List Cell} → Each Whole cs → in_map_lem bound cs ≡ true → length cs ≤ 8
+pub within-batch : (bound r : ℕ) {cs : List Cell} → Each Whole cs → in_map bound cs ≡ true → length cs ≤ 8
     → Each (Within bound) (batch_stores cs r)
 unfolding batch_stores Within
 within-batch bound r none e h = none
@@ -62,7 +62,7 @@ within-batch bound r (more {xs = cs} w ws) e h =
     each_append (within-stages bound 0 (more w ws) (omega arith))
     (more {x = commit (suc (length cs)) r} h (within-finish bound r (more w ws) e))
 
-pub within-turn : (bound r : ℕ) {cs : List Cell} {s : List ℕ} → Each Whole cs → in_map_lem bound cs ≡ true → length cs ≤ 8 → length s ≡ 17
+pub within-turn : (bound r : ℕ) {cs : List Cell} {s : List ℕ} → Each Whole cs → in_map bound cs ≡ true → length cs ≤ 8 → length s ≡ 17
     → Below 256 s
     → Each (Within bound) (turn_stores cs r s)
 unfolding turn_stores Within
@@ -70,7 +70,7 @@ within-turn bound r {cs} {s} ws e h size plain =
     each_append (within-stages bound 0 ws (omega arith))
     (more {x = commit_turn (length cs) r s} (h, size, plain) (within-finish bound r ws e))
 
-pub within-pending : (bound : ℕ) (k : List ℕ) → length k ≡ control_length → Below 256 k → count k ≤ 8 → in_map_lem bound (queue k) ≡ true
+pub within-pending : (bound : ℕ) (k : List ℕ) → length k ≡ control_length → Below 256 k → count k ≤ 8 → in_map bound (queue k) ≡ true
     → Each (Within bound) (pending_stores k)
 unfolding queue pending_stores
 within-pending bound k l b h e =

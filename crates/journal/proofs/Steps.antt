@@ -1,12 +1,12 @@
 -- What the executor's steps leave, as stores. Assumes nothing.
 use mathlib.Core.Path.{◌≡◌, refl, sym, ap, ap₂, ◌∙◌, subst}
-use mathlib.Core.Bool.{true, false}
+use mathlib.Core.Bool.{true}
 use mathlib.Core.Logic.{◌⊎◌, inl, inr}
 use mathlib.Core.List.{List, [], ◌∷◌, ◌++◌, map, map-append, append_assoc}
 use Prim.Native.Nat.{ℕ, suc, min, ◌+◌, ◌-◌, ◌*◌, ◌^◌, ◌≤◌, ◌<◌}
 use native.Mathlib.Omega.{arith}
-use borrow.Author.Tests.{lt-ltb, le-leb, lt-leb}
-use lib.Dec.{lit≤, leb}
+use borrow.Author.Tests.{lt-ltb}
+use lib.Dec.{lit≤}
 use lib.ListN.{length, take, set, length-map, length-append, length-take}
 use lib.Seq.{take-nil, take_all}
 use Rattle.words.specs.Bytes.{from_le, to_le, part, put}
@@ -14,13 +14,12 @@ use Rattle.words.proofs.Digits.{Below, length_digits}
 use Rattle.words.proofs.Order.{lt-or-ge}
 use Rattle.words.proofs.Parts.{length-put, put-part, put_one, put-append}
 use Rattle.words.proofs.Puts.{put-comm}
-use Rattle.control.specs.Control.{Cell, control_length, place_at, queued, places, queue, in_map_lem, count, new_root}
+use Rattle.control.specs.Control.{Cell, control_length, place_at, queued, places, queue, in_map, count, new_root}
 use Rattle.control.proofs.Laws.{in_map_take, places-snoc, length-places, take_places}
 use Rattle.batch.specs.Batch.{staged, staged_from}
 use Rattle.batch.proofs.Laws.{staged-past}
 use Rattle.journal.specs.Journal.{Store, Media, media, store, store_all, stages, finish, committing, batch_stores, pending_stores, made}
-use Rattle.journal.specs.Journal.{Stored, Makes, Ran}
-use Rattle.journal.specs.declared.Made.{Made}
+use Rattle.journal.specs.Journal.{Stored}
 use Rattle.journal.specs.Journal.Store.{cell, root, clear}
 use Rattle.journal.proofs.Each.{Each}
 use Rattle.journal.proofs.Laws.{length-stages, length-finish, length-batch, pending-some, pending-none, take-stages, finish-cells}
@@ -45,10 +44,10 @@ next-cell m a k at j e =
     ∙ store-append m (map cell (places k at j)) (cell (queued k (at + 80 * j)) ∷ []))
 
 -- the first t of the pending cells
-pub queue-front : (bound : ℕ) (k : List ℕ) (t : ℕ) → t ≤ count k → in_map_lem bound (queue k) ≡ true → in_map_lem bound (places k 24 t) ≡ true
+pub queue-front : (bound : ℕ) (k : List ℕ) (t : ℕ) → t ≤ count k → in_map bound (queue k) ≡ true → in_map bound (places k 24 t) ≡ true
 unfolding queue
 queue-front bound k t h e =
-    subst (λ (l : List Cell). in_map_lem bound l ≡ true) (take_places k 24 (count k) t h) (in_map_take bound (places k 24 (count k)) t e)
+    subst (λ (l : List Cell). in_map bound l ≡ true) (take_places k 24 (count k) t h) (in_map_take bound (places k 24 (count k)) t e)
 
 -- new root and count, one after the other
 pub commit-put : (k : List ℕ) (n r : ℕ) → 24 ≤ length k → set (put k 16 (to_le 8 r)) 15 n ≡ put k 15 (n ∷ to_le 8 r)
@@ -129,36 +128,30 @@ module _ (k : List ℕ) (m : Media) (a n : ℕ) (counted : n ≡ count k) where
 
 -- ---- a batch of n cells
 
--- two tests that go the same way
-pub same-leb : (m n m' n' : ℕ) → (m ≤ n → m' ≤ n') → (n < m → n' < m') → leb m n ≡ leb m' n'
-same-leb m n m' n' within past = go (lt-or-ge n m)
-  where
-    go : (n < m) ⊎ (m ≤ n) → leb m n ≡ leb m' n'
-    go (inl h) = lt-leb m n h ∙ sym (lt-leb m' n' (past h))
-    go (inr h) = le-leb m n h ∙ sym (le-leb m' n' (within h))
+-- what running a batch whose cells are staged in k leaves and tells
+pub record Ran (x k : List ℕ) (n r a : ℕ) (after : Media) (told : ℕ) : Type 0 where
+  pub left : after ≡ store_all (media x k) (made (a - n) (committing (places k (place_at 0) n) r))
+  pub number : told ≡ min n a + length (made (a - n) (committing (places k (place_at 0) n) r))
 
 -- what holds once it is committed, k having become k₂: finishing may be called, and gives the rest
 pub record Committed (x k : List ℕ) (n r a : ℕ) (k₂ : List ℕ) : Type 0 where
   pub counted : count k₂ ≡ n
   pub queued : queue k₂ ≡ places k (place_at 0) n
   pub few : (j : ℕ) (m after : Media) (told : ℕ) → Stored j (pending_stores k₂) m after told → told ≤ n + 2
-  pub rest : (after : Media) (told : ℕ) → Stored (a - n - 1) (pending_stores k₂) (media x k₂) after told
-      → Ran n a (committing (places k (place_at 0) n) r) (media x k) after
-      (record { stores = n + 1 + told; whole = leb (n + 2) (a - n - 1) })
+  pub rest : (after : Media) (told : ℕ) → Stored (a - n - 1) (pending_stores k₂) (media x k₂) after told → Ran x k n r a after (n + 1 + told)
 
 module _ (x k : List ℕ) (n r a : ℕ) where
   abbrev cells : List Cell
   cells = places k (place_at 0) n
 
   -- no more than stages
-  pub run-part : a ≤ n → Ran n a (committing cells r) (media x k) (media x k) (record { stores = a; whole = false })
+  pub run-part : a ≤ n → Ran x k n r a (media x k) a
   unfolding store_all
   run-part h =
       let none : a - n ≡ 0 = omega arith in
       record {
         left = ap (λ (i : ℕ). store_all (media x k) (made i (committing cells r))) (sym none);
         number = omega (arith, ap (λ (i : ℕ). length (made i (committing cells r))) none);
-        all = sym (lt-leb (length (committing cells r)) (a - n) (omega arith));
       }
 
   module _ (some : 1 ≤ n) (few : n ≤ 8) (size : length k ≡ control_length) (bytes : Below 256 k) (past : n < a) (word : r < 2 ^ 64)
@@ -185,8 +178,7 @@ module _ (x k : List ℕ) (n r a : ℕ) where
         ∙ ap (min j) (length-finish cells r ∙ ap (λ (i : ℕ). i + 2) many)
 
     -- what the rest of the allowance leaves
-    resume : (after : Media) (told : ℕ) → Stored (a - n - 1) (pending_stores k₂) (media x k₂) after told
-        → Ran n a (committing cells r) (media x k) after (record { stores = n + 1 + told; whole = leb (n + 2) (a - n - 1) })
+    resume : (after : Media) (told : ℕ) → Stored (a - n - 1) (pending_stores k₂) (media x k₂) after told → Ran x k n r a after (n + 1 + told)
     unfolding store store_all
     resume after told s =
         let next : suc (a - n - 1) ≡ a - n = omega arith in
@@ -203,10 +195,6 @@ module _ (x k : List ℕ) (n r a : ℕ) where
                 ap (λ (xs : List Store). length (made (a - n - 1) xs)) pending,
                 ap (λ (i : ℕ). length (made i (committing cells r))) next,
               );
-          all =
-              let size = length-finish cells r in
-              same-leb (n + 2) (a - n - 1) (length (committing cells r)) (a - n) (λ h. omega (arith, size, many))
-              (λ h. omega (arith, size, many));
         }
 
     pub run-commit : Committed x k n r a k₂
@@ -218,16 +206,6 @@ module _ (x k : List ℕ) (n r a : ℕ) where
     }
 
 -- ---- a batch that is staged and run makes its stores
-
--- all of them are made where all after the stages are
-pub makes : (n a : ℕ) (ys xs : List Store) {m after : Media} {told : Made} {start : Media} → Ran n a ys m after told
-    → 1 ≤ length ys → length xs ≡ n + length ys → Stored a xs start after told.stores → Makes a xs start after told
-makes n a ys xs {told = told} s some both stored =
-    let number = stored.number ∙ length-take a xs in
-    record {
-      stored = stored;
-      all = s.all ∙ same-leb (length ys) (a - n) (length xs) told.stores (λ h. omega (arith, number)) (λ h. omega (arith, number));
-    }
 
 -- staged cells are stores
 staged-within : (a n : ℕ) (c : Cell) (k : List ℕ) → n < a → staged a n c k ≡ put k (place_at n) (placed c)
@@ -271,16 +249,14 @@ module _ (x k : List ℕ) (cs : List Cell) (r a : ℕ) (size : length k ≡ cont
       ap (λ (m : Media). places m.control (place_at 0) (length cs)) (staged-all h ∙ stages-put (media x k) 0 ws (omega arith))
       ∙ laid-queue k cs size few ws
 
-  stored-run : (after : Media) (told : Made)
-      → Ran (length cs) a (committing (places now (place_at 0) (length cs)) r) (media x now) after told
-      → Stored a (batch_stores cs r) (media x k) after told.stores
+  pub run-stored : (after : Media) (told : ℕ) → Ran x now (length cs) r a after told → Stored a (batch_stores cs r) (media x k) after told
   unfolding store_all
-  stored-run after told s = go (lt-or-ge (length cs) a)
+  run-stored after told s = go (lt-or-ge (length cs) a)
     where
       total : length (batch_stores cs r) ≡ 2 * length cs + 3
       total = length-batch cs r some
 
-      go : (length cs < a) ⊎ (a ≤ length cs) → Stored a (batch_stores cs r) (media x k) after told.stores
+      go : (length cs < a) ⊎ (a ≤ length cs) → Stored a (batch_stores cs r) (media x k) after told
       go (inl h) =
           let past : length cs + suc (a - length cs - 1) ≡ a = omega arith in
           let next : a - length cs ≡ suc (a - length cs - 1) = omega arith in
@@ -312,11 +288,3 @@ module _ (x k : List ℕ) (cs : List Cell) (r a : ℕ) (size : length k ≡ cont
                 ∙ ap (store_all (media x k)) (take-stages a 0 cs ∙ sym (batch-stages a cs r some h));
             number = omega (arith, s.number, ap length few-made, length-take a (batch_stores cs r), total);
           }
-
-  pub run-makes : (after : Media) (told : Made)
-      → Ran (length cs) a (committing (places now (place_at 0) (length cs)) r) (media x now) after told
-      → Makes a (batch_stores cs r) (media x k) after told
-  run-makes after told s =
-      let ds = places now (place_at 0) (length cs) in
-      makes (length cs) a (committing ds r) (batch_stores cs r) s (omega arith)
-      (omega (arith, length-batch cs r some, length-finish ds r, length-places now (place_at 0) (length cs))) (stored-run after told s)

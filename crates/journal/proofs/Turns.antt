@@ -5,7 +5,6 @@ use mathlib.Core.Logic.{◌⊎◌, inl, inr}
 use mathlib.Core.List.{List, ◌++◌}
 use Prim.Native.Nat.{ℕ, suc, min, ◌+◌, ◌-◌, ◌*◌, ◌≤◌, ◌<◌}
 use native.Mathlib.Omega.{arith}
-use lib.Dec.{leb}
 use lib.ListN.{length, take, length-append, length-take}
 use lib.Seq.{take_all, take-append-le, take-append-add}
 use Rattle.words.specs.Bytes.{put}
@@ -13,15 +12,14 @@ use Rattle.words.proofs.Order.{lt-or-ge}
 use Rattle.words.proofs.Parts.{length-put}
 use Rattle.words.proofs.Puts.{part-put-before, put-comm}
 use Rattle.control.specs.Control.{Cell, control_length, place_at, turn_at, places}
-use Rattle.control.proofs.Laws.{same-places, length-places}
+use Rattle.control.proofs.Laws.{same-places}
 use Rattle.batch.specs.Batch.{staged_from}
 use Rattle.journal.specs.Journal.{Store, Media, media, store, store_all, stages, committing, committing_turn, batch_stores}
-use Rattle.journal.specs.Journal.{turn_stores, made, Stored, Makes, Ran}
-use Rattle.journal.specs.declared.Made.{Made}
+use Rattle.journal.specs.Journal.{turn_stores, made, Stored}
 use Rattle.journal.proofs.Each.{Each}
 use Rattle.journal.proofs.Laws.{length-stages, length-finish, take-stages, batch-stages, batch-finish, store-append, store-none}
 use Rattle.journal.proofs.Queue.{Whole, laid, length-laid, stages-put}
-use Rattle.journal.proofs.Steps.{staged-made, staged-places, makes}
+use Rattle.journal.proofs.Steps.{Ran, staged-made, staged-places}
 
 -- ---- how many stores
 
@@ -71,9 +69,14 @@ module _ (k : List ℕ) (cs : List Cell) (r : ℕ) (s : List ℕ) (size : length
 
 -- ---- running one
 
+-- what running a batch of a turn leaves and tells, whose cells are staged in k
+pub record RanTurn (x k : List ℕ) (n r : ℕ) (s : List ℕ) (a : ℕ) (after : Media) (told : ℕ) : Type 0 where
+  pub left : after ≡ store_all (media x k) (made (a - n) (committing_turn (places k (place_at 0) n) r s))
+  pub number : told ≡ min n a + length (made (a - n) (committing_turn (places k (place_at 0) n) r s))
+
 -- no more is told than is allowed, whatever was run
-pub ran-few : {n a : ℕ} {xs : List Store} {m after : Media} {told : Made} → Ran n a xs m after told → told.stores ≤ a
-ran-few {n} {a} {xs} ran = omega (arith, ran.number, length-take (a - n) xs)
+pub ran-few : (n a : ℕ) (xs : List Store) {told : ℕ} → told ≡ min n a + length (made (a - n) xs) → told ≤ a
+ran-few n a xs e = omega (arith, length-take (a - n) xs)
 
 -- the queue's places are not in the section
 pub turn-places : (k : List ℕ) (s : List ℕ) (n : ℕ) → length k ≡ control_length → n ≤ 8
@@ -82,10 +85,9 @@ turn-places k s n size few =
     same-places (put k turn_at s) k (place_at 0) (place_at 0) n
     (part-put-before k turn_at s (omega (arith, size)) (place_at 0) (80 * n) (omega arith))
 
-module _ (x k : List ℕ) (n r : ℕ) (s : List ℕ) (a : ℕ) (size : length k ≡ control_length) (few : n ≤ 8) (after : Media) (told : Made) where
+module _ (x k : List ℕ) (n r : ℕ) (s : List ℕ) (a : ℕ) (size : length k ≡ control_length) (few : n ≤ 8) (after : Media) (told : ℕ) where
   -- the section is set, and the batch is run
-  pub ran-set : n < a → Ran n a (committing (places (put k turn_at s) (place_at 0) n) r) (media x (put k turn_at s)) after told
-      → Ran n a (committing_turn (places k (place_at 0) n) r s) (media x k) after told
+  pub ran-set : n < a → Ran x (put k turn_at s) n r a after told → RanTurn x k n r s a after told
   unfolding store_all store
   ran-set h ran =
       let next : a - n ≡ suc (a - n - 1) = omega arith in
@@ -97,12 +99,10 @@ module _ (x k : List ℕ) (n r : ℕ) (s : List ℕ) (a : ℕ) (size : length k 
         number = ran.number
             ∙ ap₂ (λ (i : ℕ) (cs : List Cell). min n a + length (made i (committing cs r))) next same
             ∙ ap (λ (i : ℕ). min n a + length (made i (committing_turn (places k (place_at 0) n) r s))) (sym next);
-        all = ran.all ∙ ap (λ (cs : List Cell). leb (length (committing cs r)) (a - n)) same;
       }
 
   -- the allowance does not go that far
-  pub ran-short : a ≤ n → Ran n a (committing (places k (place_at 0) n) r) (media x k) after told
-      → Ran n a (committing_turn (places k (place_at 0) n) r s) (media x k) after told
+  pub ran-short : a ≤ n → Ran x k n r a after told → RanTurn x k n r s a after told
   ran-short h ran =
       let none : a - n ≡ 0 = omega arith in
       record {
@@ -110,7 +110,6 @@ module _ (x k : List ℕ) (n r : ℕ) (s : List ℕ) (a : ℕ) (size : length k 
             ∙ ap (λ (i : ℕ). store_all (media x k) (made i (committing_turn (places k (place_at 0) n) r s))) (sym none);
         number = ran.number ∙ ap (λ (i : ℕ). min n a + length (made i (committing (places k (place_at 0) n) r))) none
             ∙ ap (λ (i : ℕ). min n a + length (made i (committing_turn (places k (place_at 0) n) r s))) (sym none);
-        all = ran.all;
       }
 
 -- a batch of a turn that is staged and run makes its stores
@@ -119,15 +118,14 @@ module _ (x k : List ℕ) (cs : List Cell) (r : ℕ) (s : List ℕ) (a : ℕ) (s
   abbrev now : List ℕ
   now = staged_from a 0 cs k
 
-  stored-turn : (after : Media) (told : Made)
-      → Ran (length cs) a (committing_turn (places now (place_at 0) (length cs)) r s) (media x now) after told
-      → Stored a (turn_stores cs r s) (media x k) after told.stores
-  stored-turn after told ran = go (lt-or-ge (length cs) a)
+  pub turn-stored : (after : Media) (told : ℕ) → RanTurn x now (length cs) r s a after told
+      → Stored a (turn_stores cs r s) (media x k) after told
+  turn-stored after told ran = go (lt-or-ge (length cs) a)
     where
       total : length (turn_stores cs r s) ≡ 2 * length cs + 3
       total = length-turn-stores cs r s
 
-      go : (length cs < a) ⊎ (a ≤ length cs) → Stored a (turn_stores cs r s) (media x k) after told.stores
+      go : (length cs < a) ⊎ (a ≤ length cs) → Stored a (turn_stores cs r s) (media x k) after told
       go (inl h) =
           let all : length cs + (a - length cs) ≡ a = omega arith in
           let there = staged-places x k cs r a size some few ws h in
@@ -157,12 +155,3 @@ module _ (x k : List ℕ) (cs : List Cell) (r : ℕ) (s : List ℕ) (a : ℕ) (s
                 ∙ ap (store_all (media x k)) (take-stages a 0 cs ∙ sym (turn-staged a cs r s h));
             number = omega (arith, ran.number, ap length few-made, length-take a (turn_stores cs r s), total);
           }
-
-  pub turn-makes : (after : Media) (told : Made)
-      → Ran (length cs) a (committing_turn (places now (place_at 0) (length cs)) r s) (media x now) after told
-      → Makes a (turn_stores cs r s) (media x k) after told
-  turn-makes after told ran =
-      let ds = places now (place_at 0) (length cs) in
-      makes (length cs) a (committing_turn ds r s) (turn_stores cs r s) ran (omega arith)
-      (omega (arith, length-turn-stores cs r s, length-finish ds r, length-places now (place_at 0) (length cs)))
-      (stored-turn after told ran)

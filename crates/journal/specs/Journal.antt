@@ -1,9 +1,8 @@
 -- A batch of cells and its stores: the queue places, the commit, the cells, the root, count 0.
 -- Assumes nothing.
-use Rattle.std.specs.Prelude.{ℕ, suc, min, ◌+◌, ◌-◌, ◌*◌, Bool, cond, ◌≡◌, List, [], ◌∷◌, ◌++◌, map, leb, ltb, length, take}
+use Rattle.std.specs.Prelude.{ℕ, suc, ◌*◌, Bool, cond, ◌≡◌, List, [], ◌∷◌, ◌++◌, map, ltb, length, take}
 use Rattle.words.specs.Bytes.{to_le, put}
 use Rattle.control.specs.Control.{Cell, root_at, count_at, place_at, turn_at, queue, new_root, pending}
-use Rattle.journal.specs.declared.Made.{Made}
 
 -- one store, whole or not at all
 pub data Store : Type 0 where
@@ -77,14 +76,3 @@ is_cut allowance xs = ltb allowance (length xs)
 pub record Stored (allowance : ℕ) (xs : List Store) (m after : Media) (told : ℕ) : Type 0 where
   pub left : after ≡ store_all m (made allowance xs)
   pub number : told ≡ length (made allowance xs)
-
--- the same, and whether they are all
-pub record Makes (allowance : ℕ) (xs : List Store) (m after : Media) (r : Made) : Type 0 where
-  pub stored : Stored allowance xs m after r.stores
-  pub all : r.whole ≡ leb (length xs) r.stores
-
--- where n stages come before the stores xs, and are made as far as the allowance goes
-pub record Ran (n allowance : ℕ) (xs : List Store) (m after : Media) (r : Made) : Type 0 where
-  pub left : after ≡ store_all m (made (allowance - n) xs)
-  pub number : r.stores ≡ min n allowance + length (made (allowance - n) xs)
-  pub all : r.whole ≡ leb (length xs) (allowance - n)

@@ -1,19 +1,12 @@
 // The stores of a batch, made on the lent array and control record as far as an allowance goes.
-ghost use Rattle.std.specs.Prelude.{◌≡◌, true, ◌∷◌, map, min, ◌*◌, ◌/◌, ◌<◌, ◌≤◌, length};
+ghost use Rattle.std.specs.Prelude.{◌≡◌, true, ◌∷◌, map, min, ◌+◌, ◌-◌, ◌*◌, ◌/◌, ◌<◌, ◌≤◌, length};
 ghost use Rattle.words.specs.Bytes.{to_le, put};
 ghost use Rattle.control.specs.Control.{control_length, place_at, places, turn_bytes, queue, in_map, count, count_at};
-ghost use Rattle.journal.specs.Journal.{media, store_all, committing, committing_turn, pending_stores, Stored, Ran};
+ghost use Rattle.journal.specs.Journal.{media, store_all, made, committing, committing_turn, pending_stores, Stored};
 ghost use Rattle.journal.specs.Journal.Store.{cell};
 
 use copying::copy;
 use words::store64;
-
-// How many stores were made, and whether they are all.
-#[derive(Drop)]
-pub struct Made {
-    pub stores: u64,
-    pub whole: bool,
-}
 
 // The least of a count and an allowance.
 fn least(n: usize, allowance: u64) -> usize
@@ -76,28 +69,22 @@ pub fn finish(array: &mut [u8], control: &mut [u8], allowance: u64) -> u64
     n as u64 + 2
 }
 
-// Makes the stores of a batch of n cells, as far as the allowance goes. Those that it allows of the cells are staged: the
-// commit comes next.
-pub fn run(array: &mut [u8], control: &mut [u8], n: usize, root: u64, allowance: u64) -> Made
+// Makes the stores of a batch of n cells, as far as the allowance goes, and tells how many. Those that it allows of the
+// cells are staged: the commit comes next.
+pub fn run(array: &mut [u8], control: &mut [u8], n: usize, root: u64, allowance: u64) -> u64
     requires { (length control.old ≡ control_length) × (((1 ≤ n) × (n ≤ 8))
         × (n < allowance → in_map (length array.old / 72) (places control.old (place_at 0) n) ≡ true)) }
-    ensures { Ran n allowance (committing (places control.old (place_at 0) n) root)
-        (media array.old control.old) (media array.new control.new) result }
+    ensures control_after { media array.new control.new ≡ store_all (media array.old control.old)
+        (made (allowance - n) (committing (places control.old (place_at 0) n) root)) }
+    ensures value { result ≡ min n allowance
+        + length (made (allowance - n) (committing (places control.old (place_at 0) n) root)) }
 {
     if allowance <= n as u64 {
-        return Made {
-            stores: allowance,
-            whole: false,
-        };
+        return allowance;
     }
     commit(control, n, root);
     let left = allowance - n as u64 - 1;
-    let stores = n as u64 + 1 + finish(array, control, left);
-    let wanted = n as u64 + 2;
-    Made {
-        stores,
-        whole: wanted <= left,
-    }
+    n as u64 + 1 + finish(array, control, left)
 }
 
 // The same for a batch of a turn, whose commit also stores the section: its count, its page and its mask.
@@ -110,18 +97,17 @@ pub fn run_turn(
     page: u64,
     mask: u64,
     allowance: u64,
-) -> Made
+) -> u64
     requires { (length control.old ≡ control_length) × (((1 ≤ n) × (n ≤ 8))
         × (n < allowance → in_map (length array.old / 72) (places control.old (place_at 0) n) ≡ true)) }
-    ensures { Ran n allowance (committing_turn (places control.old (place_at 0) n) root (turn_bytes count page mask))
-        (media array.old control.old) (media array.new control.new) result }
+    ensures control_after { media array.new control.new ≡ store_all (media array.old control.old)
+        (made (allowance - n) (committing_turn (places control.old (place_at 0) n) root (turn_bytes count page mask))) }
+    ensures value { result ≡ min n allowance + length (made (allowance - n)
+        (committing_turn (places control.old (place_at 0) n) root (turn_bytes count page mask))) }
 {
     let cells = n as u64;
     if allowance <= cells {
-        return Made {
-            stores: allowance,
-            whole: false,
-        };
+        return allowance;
     }
     control::put_turn(control, count, page, mask);
     run(array, control, n, root, allowance)

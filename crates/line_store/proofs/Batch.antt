@@ -2,22 +2,22 @@
 use mathlib.Core.Path.{◌≡◌, ap, ◌∙◌}
 use mathlib.Core.Bool.{Bool, true, false, cond}
 use mathlib.Core.List.{List, [], ◌∷◌}
-use Prim.Native.Nat.{ℕ, suc, ◌≤◌}
+use Prim.Native.Nat.{ℕ, suc, ◌+◌, ◌*◌, ◌≤◌, ◌<◌}
 use native.Mathlib.Nat.{le_refl}
 use native.Mathlib.Omega.{arith}
 use lib.Dec.{eqb}
 use lib.ListN.{length, get_or}
-use Rattle.memory_map.specs.Map.{page_of, on_path, cell_of, InMap}
+use Rattle.memory_map.specs.Map.{cells, page_of, on_path, cell_of, InMap}
 use Rattle.memory_map.specs.Map.Item.{line, node}
 use Rattle.memory_map.proofs.Laws.{cell-injective, page-node, path-node}
 use Rattle.counter.specs.Counter.{lag}
 use Rattle.answer.specs.declared.Answer.TheVariants.{Done, Cut}
-use Rattle.control.specs.Control.{Cell, place_at, places}
+use Rattle.control.specs.Control.{Cell}
 use Rattle.batch.specs.Batch.{staged_from}
 use Rattle.cache.specs.Cache.{cell_content, holds}
-use Rattle.journal.specs.Journal.{Store, Media, media, store_all, committing, batch_stores, made as takes, Ran}
-use Rattle.journal.specs.declared.Made.{Made}
+use Rattle.journal.specs.Journal.{Store, Media, media, store_all, batch_stores, made as takes}
 use Rattle.journal.proofs.Each.{Each, none, more, each_append}
+use Rattle.journal.proofs.Steps.{Ran}
 use Rattle.calls.specs.Path.{node_cell, renew_path, renewed_root}
 use Rattle.calls.specs.Call.{Called, buffers, ended, storing}
 use Rattle.calls.specs.Write.{line_cell}
@@ -26,8 +26,7 @@ use Rattle.call_laws.specs.Walk.{path_cells, with_path}
 use Rattle.call_laws.proofs.Loads.{Sound, cells-sound}
 use Rattle.call_laws.proofs.Apart.{Other, node-avoids, stored-length, content-kept}
 use Rattle.call_laws.proofs.Line.{Lent, all_sound, block-few}
-use Rattle.call_laws.proofs.Staged.{Staged, stored}
-use Rattle.call_laws.proofs.Storing.{makes-cut, makes-done}
+use Rattle.call_laws.proofs.Staged.{Staged, stored, staged-cut, staged_done}
 use Rattle.path.proofs.Ready.{Ready, fit, few}
 use Rattle.line_batch.proofs.Laws.{cells-length}
 use Rattle.renewal.specs.Renewed.{renewed_tag, renewed_by}
@@ -104,16 +103,15 @@ module _ {h : ℕ} {a k c : List ℕ} {n : ℕ} (y : Ready h a k c (page_of n)) 
       abbrev called : ℕ → Called
       called f = storing allowance (buffers a k c) xs (Done (length xs) 0) (renew_path keys d p b f h)
 
-      module _ {r : ℕ} {a' k' : List ℕ} {told : Made}
-          (ran : Ran m allowance (committing (places k₁ (place_at 0) m) r) (media a k₁) (media a' k') told) (top : r ≡ get_or tags h 0) where
-        pub write-cut : (f : ℕ) → told.whole ≡ false → ended (Cut told.stores) a' k' c ≡ called f
-        write-cut f = makes-cut (stored s (top ∙ top-renewed) ran) c (renew_path keys d p b f h)
+      module _ {r : ℕ} (top : r ≡ get_or tags h 0) {a' k' : List ℕ} {told : ℕ} (ran : Ran a k₁ m r allowance (media a' k') told) where
+        pub write-cut : (f : ℕ) → told < 2 * m + 3 → ended (Cut told) a' k' c ≡ called f
+        write-cut f q = staged-cut s (top ∙ top-renewed) ran c (renew_path keys d p b f h) q
 
         abbrev d' : List ℕ
         d' = with_path h a' p (suc h) c
 
         array-is : a' ≡ (store_all (media a k) (takes allowance xs)).array
-        array-is = ap (λ (x : Media). x.array) (stored s (top ∙ top-renewed) ran).stored.left
+        array-is = ap (λ (x : Media). x.array) (stored s (top ∙ top-renewed) ran).left
 
         pub whole' : length a' ≡ length a
         whole' =
@@ -130,8 +128,8 @@ module _ {h : ℕ} {a k c : List ℕ} {n : ℕ} (y : Ready h a k c (page_of n)) 
             batch-length.1 allowance
             (renewed_root h keys d p b) (node l (on_path p l)) (batch-other l q lh e)
 
-        pub write_done : (f : ℕ) → told.whole ≡ true → (c' : List ℕ) → c' ≡ renewed_by d' p b f tags h
-            → ended (Done told.stores 0) a' k' c' ≡ called f
+        pub write_done : (f : ℕ) → 2 * m + 3 ≤ told → (c' : List ℕ) → c' ≡ renewed_by d' p b f tags h → ended (Done told 0) a' k' c'
+            ≡ called f
         write_done f q c' e =
-            ap (λ (l : List ℕ). ended (Done told.stores 0) a' k' l) (e ∙ same-renewed y keys b v.wide tags known a' whole' kept f)
-            ∙ makes-done (stored s (top ∙ top-renewed) ran) c (renew_path keys d p b f h) q
+            ap (λ (l : List ℕ). ended (Done told 0) a' k' l) (e ∙ same-renewed y keys b v.wide tags known a' whole' kept f)
+            ∙ staged_done s (top ∙ top-renewed) ran c (renew_path keys d p b f h) q

@@ -50,16 +50,11 @@ pub fn store_line(
         h, family, keys, cache, line, text, major, minor, block, missing, control, allowance,
     );
     let root = tags[h];
-    let made = journal::run(array, control, n, root, allowance);
-    if !made.whole {
-        return Answer::Cut {
-            stores: made.stores,
-        };
+    let stores = journal::run(array, control, n, root, allowance);
+    if stores < 2 * n as u64 + 3 {
+        return Answer::Cut { stores };
     }
     loading::load_missing(h, array, p, missing, cache);
     renewal::renew_path(h, p, tags, block, block_flag(minor), cache);
-    Answer::Done {
-        stores: made.stores,
-        sum: 0,
-    }
+    Answer::Done { stores, sum: 0 }
 }

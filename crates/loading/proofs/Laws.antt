@@ -1,6 +1,6 @@
 -- The turns of the loops that stage the batch of a path and load it, level by level from the top. Assumes nothing.
 use mathlib.Core.Path.{◌≡◌, refl, sym, ap, ap₂, ◌∙◌}
-use mathlib.Core.Bool.{Bool, true, false, cond}
+use mathlib.Core.Bool.{true, false}
 use mathlib.Core.List.{List, [], ◌∷◌, ◌++◌}
 use Prim.Native.Nat.{ℕ, suc, ◌+◌, ◌-◌, ◌≤◌, ◌<◌}
 use native.Mathlib.Numerals.{add-one}
@@ -10,75 +10,76 @@ use lib.ListN.{length, length-append}
 use Rattle.words.specs.Bytes.{digits}
 use Rattle.memory_map.specs.Map.{on_path, cell_of}
 use Rattle.memory_map.specs.Map.Item.{node, shadow}
-use Rattle.slot_map.specs.Slots.{slot_of, level_of}
+use Rattle.slot_map.specs.Slots.{slot_of}
 use Rattle.control.specs.Control.{Cell}
 use Rattle.cache.specs.Cache.{owner, dirty, content, with_slot, cell_content, holds}
-use Rattle.calls.specs.Path.{node_cell, shadow_cell, evicted, slot_cells}
+use Rattle.calls.specs.Path.{node_cell, shadow_cell, evicted}
 use Rattle.batch.specs.Batch.{cell_with, shadow_for, staged, staged_from}
 use Rattle.batch.proofs.Laws.{staged-append}
 use Rattle.call_laws.specs.Walk.{node_cells, path_cells, with_node, with_path}
 
 -- ---- gathering
 
-module _ (h : ℕ) (c : List ℕ) (s o : ℕ) where
-  slot-clean : (dirty c s ≡ 1 → ⊥) → slot_cells h c s o ≡ shadow_cell h s o ∷ []
-  unfolding slot_cells evicted
-  slot-clean e = rw (ne_eqb (dirty c s) 1 e)
+module _ (h : ℕ) (c : List ℕ) (l i : ℕ) (lacks : holds c l i ≡ false) where
+  node-clean : (dirty c (slot_of l i) ≡ 1 → ⊥) → node_cells h c l i ≡ shadow_cell h (slot_of l i) (suc i) ∷ []
+  unfolding node_cells evicted
+  node-clean e = rw (lacks, ne_eqb (dirty c (slot_of l i)) 1 e)
 
-  slot-dirty : dirty c s ≡ 1 → slot_cells h c s o ≡ node_cell h (level_of s) (owner c s - 1) (content c s) ∷ shadow_cell h s o ∷ []
-  unfolding slot_cells evicted
-  slot-dirty e = rw (eq-eqb (dirty c s) 1 e)
+  node-dirty : dirty c (slot_of l i) ≡ 1
+      → node_cells h c l i ≡ node_cell h l (owner c (slot_of l i) - 1) (content c (slot_of l i)) ∷ shadow_cell h (slot_of l i) (suc i) ∷ []
+  unfolding node_cells evicted
+  node-dirty e = rw (lacks, eq-eqb (dirty c (slot_of l i)) 1 e)
 
-  cell-is : (x l j : ℕ) (b : List ℕ) → x ≡ cell_of h (node l j) → cell_with x b 0 ≡ node_cell h l j b
+  shadow-is : (s x o : ℕ) → s ≡ slot_of l i → x ≡ cell_of h (shadow s) → o ≡ i + 1 → shadow_for x o ≡ shadow_cell h (slot_of l i) (suc i)
+  shadow-is s x o e f g = ap₂ {C = Cell} shadow_for (f ∙ ap (λ (t : ℕ). cell_of h (shadow t)) e) (g ∙ add-one i)
+
+  cell-is : (x j : ℕ) (b : List ℕ) → x ≡ cell_of h (node l j) → cell_with x b 0 ≡ node_cell h l j b
   unfolding digits
-  cell-is x l j b e = ap (λ (y : ℕ). cell_with y b 0) e
+  cell-is x j b e = ap (λ (y : ℕ). cell_with y b 0) e
 
-  pub cells-dirty : dirty c s ≡ 1 → length (slot_cells h c s o) ≡ 2
-  cells-dirty d = ap length (slot-dirty d)
+  -- it has cells, dirty or not
+  pub cells-some : 1 ≤ length (node_cells h c l i)
+  unfolding node_cells
+  cells-some = rw lacks (omega (arith, length-append (evicted h c l (slot_of l i)) (shadow_cell h (slot_of l i) (suc i) ∷ [])))
 
-  -- what the slot adds to n staged cells
+  pub cells-dirty : (s : ℕ) → s ≡ slot_of l i → dirty c s ≡ 1 → length (node_cells h c l i) ≡ 2
+  cells-dirty s e d = ap length (node-dirty (ap (dirty c) (sym e) ∙ d))
+
+  -- what a node adds to n staged cells
   pub record Gathered (allowance : ℕ) (before after : List ℕ) (n m : ℕ) : Type 0 where
-    pub cells : after ≡ staged_from allowance n (slot_cells h c s o) before
-    pub number : m ≡ n + length (slot_cells h c s o)
+    pub cells : after ≡ staged_from allowance n (node_cells h c l i) before
+    pub number : m ≡ n + length (node_cells h c l i)
 
-  module _ (allowance : ℕ) (before : List ℕ) (n : ℕ) where
+  module _ (allowance : ℕ) (before : List ℕ) (n s : ℕ) (slot : s ≡ slot_of l i) where
     pub gathered-clean : (dirty c s ≡ 1 → ⊥) → (after : List ℕ) (x : ℕ) → x ≡ cell_of h (shadow s)
-        → after ≡ staged allowance n (shadow_for x o) before → Gathered allowance before after n (n + 1)
+        → after ≡ staged allowance n (shadow_for x (i + 1)) before → Gathered allowance before after n (n + 1)
     unfolding staged_from
     gathered-clean e after x f g =
-        let is = slot-clean e in
+        let is = node-clean (λ q. e (ap (dirty c) slot ∙ q)) in
         record {
           cells =
-              g ∙ ap (λ (y : ℕ). staged allowance n (shadow_for y o) before) f
+              g ∙ ap (λ (z : Cell). staged allowance n z before) (shadow-is s x (i + 1) slot f refl)
               ∙ ap (λ (z : List Cell). staged_from allowance n z before) (sym is);
           number = sym (ap (λ (z : List Cell). n + length z) is);
         }
 
-    pub gathered-dirty : dirty c s ≡ 1 → (middle after : List ℕ) (q l x y : ℕ) (b : List ℕ) → q ≡ owner c s → l ≡ level_of s
-        → b ≡ content c s → x ≡ cell_of h (node l (q - 1)) → y ≡ cell_of h (shadow s) → middle ≡ staged allowance n (cell_with x b 0) before
-        → after ≡ staged allowance (n + 1) (shadow_for y o) middle → Gathered allowance before after n (n + 2)
+    pub gathered-dirty : dirty c s ≡ 1 → (middle after : List ℕ) (o x y : ℕ) (b : List ℕ) → o ≡ owner c s → b ≡ content c s
+        → x ≡ cell_of h (node l (o - 1)) → y ≡ cell_of h (shadow s) → middle ≡ staged allowance n (cell_with x b 0) before
+        → after ≡ staged allowance (n + 1) (shadow_for y (i + 1)) middle → Gathered allowance before after n (n + 2)
     unfolding staged_from
-    gathered-dirty e middle after q l x y b f w r u v g k =
-        let is = slot-dirty e in
-        let first : cell_with x b 0 ≡ node_cell h (level_of s) (owner c s - 1) (content c s) =
-        cell-is x l (q - 1) b u ∙ ap₂ {C = Cell} (λ (j i : ℕ). node_cell h j (i - 1) b) w f
-        ∙ ap (node_cell h (level_of s) (owner c s - 1)) r in
+    gathered-dirty e middle after o x y b f q u v g k =
+        let is = node-dirty (ap (dirty c) (sym slot) ∙ e) in
+        let first : cell_with x b 0 ≡ node_cell h l (owner c (slot_of l i) - 1) (content c (slot_of l i)) =
+        cell-is x (o - 1) b u ∙ ap₂ {C = Cell} (λ (j : ℕ) (z : List ℕ). node_cell h l (j - 1) z) (f ∙ ap (owner c) slot)
+        (q ∙ ap (content c) slot) in
         record {
           cells =
-              k ∙ ap (λ (t : ℕ). staged allowance t (shadow_for y o) middle) (add-one n)
-              ∙ ap₂ {C = List ℕ} (λ (z : ℕ) (m : List ℕ). staged allowance (suc n) (shadow_for z o) m) v
+              k ∙ ap (λ (t : ℕ). staged allowance t (shadow_for y (i + 1)) middle) (add-one n)
+              ∙ ap₂ {C = List ℕ} (λ (z : Cell) (w : List ℕ). staged allowance (suc n) z w) (shadow-is s y (i + 1) slot v refl)
               (g ∙ ap (λ (z : Cell). staged allowance n z before) first)
               ∙ ap (λ (z : List Cell). staged_from allowance n z before) (sym is);
           number = sym (ap (λ (z : List Cell). n + length z) is);
         }
-
--- the cells of a missing node are those of its slot
-pub missing-cells : (h : ℕ) (c : List ℕ) (l i s o : ℕ) → holds c l i ≡ false → s ≡ slot_of l i → o ≡ i + 1
-    → slot_cells h c s o ≡ node_cells h c l i
-unfolding node_cells
-missing-cells h c l i s o lacks e f =
-    ap₂ {C = List Cell} (slot_cells h c) e (f ∙ add-one i)
-    ∙ ap (λ (t : Bool). cond t [] (slot_cells h c (slot_of l i) (suc i))) (sym lacks)
 
 -- m cells are staged, and those of the n lowest levels are left
 pub record Gathering (h : ℕ) (c : List ℕ) (p allowance : ℕ) (before now : List ℕ) (m n : ℕ) : Type 0 where

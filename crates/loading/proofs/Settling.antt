@@ -1,25 +1,24 @@
 -- The path loaded under an allowance: nothing to load, or its batch staged and run. Assumes nothing.
 use mathlib.Core.Path.{◌≡◌, sym, ap, ap₂, ◌∙◌}
-use mathlib.Core.Bool.{true, false}
 use mathlib.Core.List.{List, []}
-use Prim.Native.Nat.{ℕ, suc}
+use Prim.Native.Nat.{ℕ, suc, ◌+◌, ◌*◌, ◌≤◌, ◌<◌}
 use native.Mathlib.Nat.{le_refl}
 use native.Mathlib.Omega.{arith}
 use lib.ListN.{length}
 use lib.Seq.{take-nil}
 use Rattle.answer.specs.declared.Answer.TheVariants.{Done, Cut}
-use Rattle.control.specs.Control.{Cell, root, place_at, places}
+use Rattle.control.specs.Control.{Cell, root}
 use Rattle.batch.specs.Batch.{staged_from}
-use Rattle.journal.specs.Journal.{Store, Media, media, store_all, committing, batch_stores, Ran}
-use Rattle.journal.specs.declared.Made.{Made}
+use Rattle.journal.specs.Journal.{Store, Media, media, store_all, batch_stores}
 use Rattle.journal.proofs.Laws.{batch-empty, store-none}
+use Rattle.journal.proofs.Steps.{Ran}
 use Rattle.calls.specs.Call.{Module, Called, buffers, ended, storing}
 use Rattle.call_laws.specs.Walk.{missing, path_cells, path_stores, with_path}
 use Rattle.call_laws.proofs.Loads.{cells-sound, none-missing, some-missing}
-use Rattle.call_laws.proofs.Staged.{Staged, stored}
+use Rattle.call_laws.proofs.Staged.{Staged, stored, staged-cut, staged_done}
 use Rattle.call_laws.proofs.Apart.{path-kept}
 use Rattle.path.proofs.Ready.{Ready, fit, few}
-use Rattle.call_laws.proofs.Storing.{storing-done, makes-cut, makes-done}
+use Rattle.call_laws.proofs.Storing.{storing-done}
 
 module _ {h : ℕ} {a k c : List ℕ} {p : ℕ} (y : Ready h a k c p) where
   abbrev m : Module
@@ -62,16 +61,15 @@ module _ {h : ℕ} {a k c : List ℕ} {p : ℕ} (y : Ready h a k c p) where
       }
 
   module _ {allowance : ℕ} {k₁ : List ℕ} {n : ℕ} (s : Staged h allowance a k (path_cells h c p (suc h)) k₁ n) {r : ℕ} (old : r ≡ root k)
-      {a' k' : List ℕ} {told : Made}
-      (ran : Ran n allowance (committing (places k₁ (place_at 0) n) r) (media a k₁) (media a' k') told) where
-    pub settle-cut : told.whole ≡ false → ended (Cut told.stores) a' k' c ≡ storing allowance m xs (Done (length xs) 0) d
-    settle-cut = makes-cut (stored s old ran) c d
+      {a' k' : List ℕ} {told : ℕ} (ran : Ran a k₁ n r allowance (media a' k') told) where
+    pub settle-cut : told < 2 * n + 3 → ended (Cut told) a' k' c ≡ storing allowance m xs (Done (length xs) 0) d
+    settle-cut = staged-cut s old ran c d
 
-    pub settle-done : told.whole ≡ true → (c' : List ℕ) → c' ≡ with_path h a' p (suc h) c
-        → ended (Done told.stores 0) a' k' c' ≡ storing allowance m xs (Done (length xs) 0) d
+    pub settle-done : 2 * n + 3 ≤ told → (c' : List ℕ) → c' ≡ with_path h a' p (suc h) c
+        → ended (Done told 0) a' k' c' ≡ storing allowance m xs (Done (length xs) 0) d
     settle-done q c' e =
         let same : c' ≡ d =
-        e ∙ ap (λ (l : List ℕ). with_path h l p (suc h) c) (ap (λ (x : Media). x.array) (stored s old ran).stored.left)
+        e ∙ ap (λ (l : List ℕ). with_path h l p (suc h) c) (ap (λ (x : Media). x.array) (stored s old ran).left)
         ∙ path-kept h y.sized.deep y.sized.flat a k c y.sized.array y.control y.array-bytes y.control-bytes
         (fit y) p y.page allowance (root k) in
-        ap (λ (l : List ℕ). ended (Done told.stores 0) a' k' l) same ∙ makes-done (stored s old ran) c d q
+        ap (λ (l : List ℕ). ended (Done told 0) a' k' l) same ∙ staged_done s old ran c d q

@@ -1,41 +1,42 @@
 // Loading a path: its batch, its stores, its slots.
-ghost use Rattle.std.specs.Prelude.{◌≡◌, true, suc, ◌+◌, ◌<◌, ◌≤◌, length};
-ghost use Rattle.memory_map.specs.Map.{pages, slots};
+ghost use Rattle.std.specs.Prelude.{◌≡◌, true, false, suc, ◌+◌, ◌<◌, ◌≤◌, length};
+ghost use Rattle.memory_map.specs.Map.{pages, InMap};
+ghost use Rattle.memory_map.specs.Map.Item.{node};
 ghost use Rattle.slot_map.specs.Slots.{cache_length};
 ghost use Rattle.answer.specs.declared.Answer.TheVariants.{Done};
 ghost use Rattle.control.specs.Control.{control_length, root as root_of};
-ghost use Rattle.cache.specs.Cache.{formed};
+ghost use Rattle.cache.specs.Cache.{formed, holds};
 ghost use Rattle.batch.specs.Batch.{staged_from};
 ghost use Rattle.node.specs.Sized.{Sized};
-ghost use Rattle.calls.specs.Path.{slot_cells};
 ghost use Rattle.calls.specs.Call.{buffers, ended, storing};
-ghost use Rattle.call_laws.specs.Walk.{missing as missing_nodes, path_cells, path_stores, with_path};
+ghost use Rattle.call_laws.specs.Walk.{missing as missing_nodes, node_cells, path_cells, path_stores, with_path};
 
 use answer::Answer;
 use memory_map::on_path;
 
-// Stages the cells by which slot s gets an owner, 0 for none, behind n others, and tells how many cells there then are.
-pub fn gather_slot(
+// Stages the cells of a missing node behind n others, and tells how many cells there then are.
+fn gather_node(
     h: usize,
     cache: &[u8],
-    s: usize,
-    owner: u64,
+    l: usize,
+    i: usize,
     control: &mut [u8],
     n: usize,
     allowance: u64,
 ) -> usize
-    requires le_h { (1 ≤ h) × ((h ≤ 3) × ((length cache.now ≡ cache_length h) × ((formed h cache.now ≡ true) × (s < slots h)))) }
-    requires control_len { (length control.old ≡ control_length) × (n + length (slot_cells h cache.now s owner) ≤ 8) }
-    ensures control_after { control.new ≡ staged_from allowance n (slot_cells h cache.now s owner) control.old }
-    ensures value { result ≡ n + length (slot_cells h cache.now s owner) }
+    requires le_h { (1 ≤ h) × ((h ≤ 3) × ((length cache.now ≡ cache_length h) × ((formed h cache.now ≡ true) × InMap h (node l i)))) }
+    requires i_value { (holds cache.now l i ≡ false)
+        × ((length control.old ≡ control_length) × (n + length (node_cells h cache.now l i) ≤ 8)) }
+    ensures control_after { control.new ≡ staged_from allowance n (node_cells h cache.now l i) control.old }
+    ensures value { result ≡ n + length (node_cells h cache.now l i) }
 {
+    let s = slot_map::slot_of(l, i);
     let shadow = memory_map::shadow_cell(h, s);
     if cache::dirty(cache, s) != 1 {
-        batch::put_shadow(control, n, allowance, shadow, owner);
+        batch::put_shadow(control, n, allowance, shadow, i as u64 + 1);
         return n + 1;
     }
     let former = cache::owner(cache, s) as usize - 1;
-    let l = slot_map::level_of(s);
     let content = node::in_slot(cache, s);
     batch::put_cell(
         control,
@@ -45,11 +46,11 @@ pub fn gather_slot(
         content,
         0,
     );
-    batch::put_shadow(control, n + 1, allowance, shadow, owner);
+    batch::put_shadow(control, n + 1, allowance, shadow, i as u64 + 1);
     n + 2
 }
 
-// Stages the batch of a path: the cells of each missing node's slot.
+// Stages the batch of a path: per missing node its slot's dirty former owner, then the shadow cell.
 pub fn gather(h: usize, cache: &[u8], p: usize, control: &mut [u8], allowance: u64) -> usize
     requires le_h { (1 ≤ h) × ((h ≤ 3) × ((length cache.now ≡ cache_length h) × ((formed h cache.now ≡ true) × (p < pages h)))) }
     requires control_len { (length control.old ≡ control_length) × (length (path_cells h cache.now p (suc h)) ≤ 8) }
@@ -62,8 +63,7 @@ pub fn gather(h: usize, cache: &[u8], p: usize, control: &mut [u8], allowance: u
         n -= 1;
         let i = on_path(p, n);
         if !node::holds(cache, n, i) {
-            let s = slot_map::slot_of(n, i);
-            k = gather_slot(h, cache, s, i as u64 + 1, control, k, allowance);
+            k = gather_node(h, cache, n, i, control, k, allowance);
         }
     }
     k
@@ -119,15 +119,10 @@ pub fn settle(
     }
     let root = control::root(control);
     let n = gather(h, cache, p, control, allowance);
-    let made = journal::run(array, control, n, root, allowance);
-    if !made.whole {
-        return Answer::Cut {
-            stores: made.stores,
-        };
+    let stores = journal::run(array, control, n, root, allowance);
+    if stores < 2 * n as u64 + 3 {
+        return Answer::Cut { stores };
     }
     load(h, array, p, cache);
-    Answer::Done {
-        stores: made.stores,
-        sum: 0,
-    }
+    Answer::Done { stores, sum: 0 }
 }

@@ -10,7 +10,7 @@ use native.Mathlib.Omega.{arith}
 use lib.Dec.{lit<}
 use lib.Pow.{pow-add}
 use Rattle.words.proofs.Digits.{pow_pos}
-use Rattle.words.proofs.Order.{lt-eq-gt, lt-or-ge}
+use Rattle.words.proofs.Order.{lt-eq-gt}
 use Rattle.memory_map.specs.Map.{pages, lines, nodes, page_of, on_path, level_start, slots, shadow_start, shadow_cells, cells, Item}
 use Rattle.memory_map.specs.Map.{cell_of, InMap}
 use Rattle.memory_map.specs.Map.Item.{line, node, shadow}
@@ -194,36 +194,6 @@ cell-injective h (node l i) (shadow s) p q e = absurd (omega (arith, level-shado
 cell-injective h (shadow s) (line n) p q e = absurd (omega (arith, level-lines h (suc h)))
 cell-injective h (shadow s) (node l i) p q e = absurd (omega (arith, level-shadow h l i q.0 q.1))
 cell-injective h (shadow s) (shadow t) p q e = ap shadow (add_left_cancel (level_start h (suc h)) e)
-
--- every cell of the array is an item's
-pub record Located (h n : ℕ) : Type 0 where
-  pub item : Item
-  pub inside : InMap h item
-  pub cell : cell_of h item ≡ n
-
-located-below : (h l n : ℕ) → l ≤ suc h → n < level_start h l → Located h n
-unfolding InMap cell_of level_start
-located-below h zero n p q = record { item = line n; inside = q; cell = refl }
-located-below h (suc l) n p q = go (lt-or-ge n (level_start h l)) (located-below h l n (omega arith))
-  where
-    go : (n < level_start h l) ⊎ (level_start h l ≤ n) → (n < level_start h l → Located h n) → Located h n
-    go (inl r) below = below r
-    go (inr r) below = record { item = node l (n - level_start h l); inside = (omega arith, omega arith); cell = omega arith }
-
-pub located : (h n : ℕ) → n < cells h → Located h n
-unfolding InMap cell_of cells shadow_start shadow_cells
-located h n q = go (lt-or-ge n (level_start h (suc h)))
-  where
-    go : (n < level_start h (suc h)) ⊎ (level_start h (suc h) ≤ n) → Located h n
-    go (inl r) = located-below h (suc h) n (le_refl (suc h)) r
-    go (inr r) = record { item = shadow (n - level_start h (suc h)); inside = omega arith; cell = omega arith }
-
--- a page whose path goes through a node of the map is a page of the map
-pub path_inside : (h p l i : ℕ) → l ≤ h → i < nodes h l → on_path p l ≡ i → p < pages h
-unfolding pages nodes
-path_inside h p l i r q e =
-    subst (λ (n : ℕ). p < n) (sym (ap (λ (k : ℕ). 8 ^ k) (sym (sub-add_cancel r)) ∙ pow-add 8 (h - l) l))
-    ((div-lt_iff_lt-mul (pow_pos 8 l (lit< tt))).0 (subst (λ (k : ℕ). k < 8 ^ (h - l)) (sym e) q))
 
 -- a cell's number as the code computes it
 pub node-cell : (h l i : ℕ) → level_start h l + i ≡ cell_of h (node l i)

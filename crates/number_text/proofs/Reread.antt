@@ -10,7 +10,7 @@ use borrow.Author.Tests.{lt-ltb, le-ltb, le-leb}
 use lib.ListN.{length, get_or, length-append, get_or-append}
 use Rattle.words.proofs.Order.{lt-or-ge}
 use Rattle.decimal.specs.declared.Number.TheVariants.{Value, Bad}
-use Rattle.decimal.specs.Decimal.{is_digit_lem, all_digits, value_from, below64, decimal}
+use Rattle.decimal.specs.Decimal.{is_digit, all_digits, value_from, below64, decimal}
 use Rattle.decimal.proofs.Numbers.{fits}
 use Rattle.number_text.specs.Text.{digits_of, printed}
 
@@ -21,8 +21,8 @@ unfolding value_from
 value_on n [] b = refl
 value_on n (c ∷ bs) b = value_on (10 * n + (c - 48)) bs b
 
-is_digit_lem : (d : ℕ) → d < 10 → is_digit_lem (48 + d) ≡ true
-unfolding is_digit_lem
+is_digit_lem : (d : ℕ) → d < 10 → is_digit (48 + d) ≡ true
+unfolding is_digit
 is_digit_lem d h =
     let low : 48 ≤ 48 + d = omega arith in
     let high : 48 + d ≤ 57 = omega arith in
@@ -36,7 +36,7 @@ digits-on : (bs : List ℕ) (d : ℕ) → d < 10 → all_digits bs ≡ true → 
 unfolding all_digits
 digits-on [] d h e = rw (is_digit_lem d h)
 digits-on (b ∷ bs) d h e =
-    let parts = and-true (is_digit_lem b) (all_digits bs) e in
+    let parts = and-true (is_digit b) (all_digits bs) e in
     ap₂ {C = Bool} ◌&&◌ parts.0 (digits-on bs d h parts.1)
 
 -- ---- the digits of a number

@@ -5,6 +5,7 @@ use mathlib.Core.List.{List, map, Memᴰ}
 use Prim.Native.Nat.{ℕ, suc, ◌/◌, ◌≤◌}
 use native.Mathlib.Nat.{le_refl}
 use native.Mathlib.Omega.{arith}
+use borrow.Author.Tests.{leb-true, leb-false}
 use lib.ListN.{length, get_or}
 use Rattle.bits.proofs.Climbs.{climbs-mem}
 use Rattle.memory_map.specs.Map.{on_path, cell_of, InMap}
@@ -16,8 +17,7 @@ use Rattle.answer.specs.declared.Answer.TheVariants.{Done, Cut}
 use Rattle.control.specs.Control.{Cell, family, depth, root}
 use Rattle.cache.specs.Cache.{cell_content, holds, current}
 use Rattle.cache.specs.declared.Found.TheVariants.{Nothing}
-use Rattle.journal.specs.Journal.{Store, Media, media, Makes}
-use Rattle.journal.specs.declared.Made.{Made}
+use Rattle.journal.specs.Journal.{Store, Media, media}
 use Rattle.journal.proofs.Each.{Each}
 use Rattle.journal.proofs.Kept.{Within}
 use Rattle.calls.specs.Path.{renew_path, renewed_root}
@@ -29,13 +29,14 @@ use Rattle.call_laws.specs.Walk.{path_cells, with_path}
 use Rattle.call_laws.proofs.Apart.{node-avoids, made-content}
 use Rattle.call_laws.proofs.Kept.{array-cells}
 use Rattle.call_laws.proofs.Loads.{cells-sound, path-fit}
-use Rattle.call_laws.proofs.Storing.{makes-cut, makes-done}
+use Rattle.call_laws.proofs.Storing.{all_told, storing-cut, storing-done}
 use Rattle.call_laws.proofs.Turn.{Proper, Spares, block_inside, line-inside, front-spares, turn-proper, batches-spare, places-climb}
 use Rattle.call_laws.proofs.Turn.{stores-within, stores-avoid}
 use Rattle.path.proofs.Ready.{Ready, fit, few, block-loaded}
 use Rattle.renewal.specs.Renewed.{renewed_tag, renewed_by}
 use Rattle.line_store.proofs.Renewed.{root-renewed, same-renewed}
-use Rattle.turn_store.specs.Page.{Page, page_stores}
+use Rattle.turn_store.specs.Page.{Page, page_stores, Makes}
+use Rattle.turn_store.specs.declared.Made.{Made}
 
 module _ {h : ℕ} {a k c : List ℕ} {p missing ma : ℕ} {ms : List ℕ} {mask : ℕ} (y : Ready h a k c p) (g : Page h a k c p missing ma ms mask)
     (keys : List ℕ) where
@@ -116,7 +117,10 @@ module _ {h : ℕ} {a k c : List ℕ} {p missing ma : ℕ} {ms : List ℕ} {mask
 
       module _ {a' k' : List ℕ} {r : Made} (m : Makes allowance xs (media a k) (media a' k') r) where
         pub page-cut : r.whole ≡ false → ended (Cut r.stores) a' k' c ≡ called
-        page-cut e = makes-cut m c (renew_path keys d p new 0 h) e ∙ called_is
+        page-cut e =
+            storing-cut allowance (buffers a k c) xs (Done (length xs) 0) (renew_path keys d p new 0 h) a' k' r.stores m.stored
+            (leb-false _ _ (sym m.all ∙ e))
+            ∙ called_is
 
         kept : (l : ℕ) → 1 ≤ l → l ≤ h → holds c l (on_path p l) ≡ false
             → cell_content a' (cell_of h (node l (on_path p l))) ≡ cell_content a (cell_of h (node l (on_path p l)))
@@ -130,6 +134,10 @@ module _ {h : ℕ} {a k c : List ℕ} {p missing ma : ℕ} {ms : List ℕ} {mask
         pub page-done : length a' ≡ length a → r.whole ≡ true → (c' : List ℕ) → c' ≡ renewed_by (with_path h a' p (suc h) c) p new 0 tags h
             → ended (Done r.stores 0) a' k' c' ≡ called
         page-done same e c' f =
-            ap (λ (l : List ℕ). ended (Done r.stores 0) a' k' l)
+            let b = buffers a k c in
+            let e' = renew_path keys d p new 0 h in
+            let whole : length xs ≤ r.stores = leb-true _ _ (sym m.all ∙ e) in
+            ap₂ {C = Called} (λ (i : ℕ) (l : List ℕ). ended (Done i 0) a' k' l)
+            (all_told allowance b xs (Done (length xs) 0) e' a' k' r.stores m.stored whole)
             (f ∙ same-renewed y keys new (length-turned (current h a c 0 p)) tags known a' same kept 0)
-            ∙ makes-done m c (renew_path keys d p new 0 h) e ∙ called_is
+            ∙ storing-done allowance b xs (Done (length xs) 0) e' a' k' r.stores m.stored whole ∙ called_is

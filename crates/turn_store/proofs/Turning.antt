@@ -7,6 +7,7 @@ use Prim.Native.Nat.{ℕ, suc, ◌+◌, ◌-◌, ◌*◌, ◌/◌, ◌^◌, ◌�
 use native.Mathlib.Nat.{le_refl, zero-add}
 use native.Mathlib.Omega.{arith}
 use lib.Dec.{leb}
+use borrow.Author.Tests.{le-leb, lt-leb}
 use lib.ListN.{length, get_or, drop, length-append, length-take, length-map}
 use lib.Seq.{drop-cons}
 use Rattle.words.proofs.Order.{lt-or-ge}
@@ -16,17 +17,15 @@ use Rattle.bits.proofs.Laws.{bits-climb, bits_none, with-of}
 use Rattle.memory_map.specs.Map.{lines, array_length, cell_of}
 use Rattle.counter.specs.Counter.{turned}
 use Rattle.counter.proofs.Laws.{length-minors}
-use Rattle.control.specs.Control.{Cell, control_length, family, root, place_at, places, turn_bytes, in_map_lem}
+use Rattle.control.specs.Control.{Cell, control_length, family, root, place_at, places, turn_bytes, in_map}
 use Rattle.batch.specs.Batch.{staged, staged_from}
 use Rattle.batch.proofs.Laws.{staged-none, staged-one, staged-append}
 use Rattle.cache.specs.Cache.{cell_content, current}
-use Rattle.journal.specs.Journal.{Store, Media, media, committing_turn, turn_stores, Stored, Makes, Ran}
-use Rattle.journal.specs.declared.Made.{Made}
+use Rattle.journal.specs.Journal.{Store, Media, media, turn_stores, Stored}
 use Rattle.journal.proofs.Each.{Each, none, more, each_append}
 use Rattle.journal.proofs.Kept.{Formed, Within, made_kept, avoids-turn}
 use Rattle.journal.proofs.Several.{stored-both}
-use Rattle.journal.proofs.Steps.{same-leb}
-use Rattle.journal.proofs.Turns.{length-turn-stores}
+use Rattle.journal.proofs.Turns.{RanTurn, length-turn-stores}
 use Rattle.calls.specs.Path.{node_cell}
 use Rattle.calls.specs.Write.{line_cell}
 use Rattle.calls.specs.Turn.{Batch, line_at, block_of, turn_places, turn_front, turned_cell, turned_root, new_block_cell, left_bytes, last_batch}
@@ -40,7 +39,7 @@ use Rattle.call_laws.proofs.Turn.{Proper, front-sound, front-spares, front-few, 
 use Rattle.call_laws.proofs.Turn.{batch-within, batch-then, block-line, line-inside}
 use Rattle.path.proofs.Ready.{Ready, fit, few, block-loaded}
 use Rattle.turn_batch.specs.Fresh.{fresh_line}
-use Rattle.turn_store.specs.Page.{Page, page_stores}
+use Rattle.turn_store.specs.Page.{Page, page_stores, Makes}
 use Rattle.turn_store.proofs.Fresh.{fresh-turned, all-turned}
 
 pub some_bits : (x : ℕ) → 0 < length (set_bits x) → 0 < x
@@ -54,7 +53,7 @@ some_bits x q = go (lt-or-ge 0 x)
 pub record Runs (array control : List ℕ) (n left : ℕ) : Type 0 where
   pub some : 1 ≤ n
   pub few : n ≤ 8
-  pub inside : n < left → in_map_lem (length array / 72) (places control (place_at 0) n) ≡ true
+  pub inside : n < left → in_map (length array / 72) (places control (place_at 0) n) ≡ true
 
 runs : {h left : ℕ} {a k : List ℕ} {cs : List Cell} {k₁ : List ℕ} {n : ℕ} → Staged h left a k cs k₁ n → Runs a k₁ n left
 runs s = record { some = omega (arith, s.some, s.number); few = omega (arith, s.few, s.number); inside = staged-inside s }
@@ -217,23 +216,17 @@ module _ (f : ℕ) (keys : List ℕ) (r : ℕ) {h : ℕ} {a k c : List ℕ} {p m
         pub line-runs : Runs array control₁ (cells + 1) left
         line-runs = runs line-staged
 
-        module _ {array₂ control₂ : List ℕ} {run : Made} {top : ℕ} {section : List ℕ}
-            (ran : Ran (cells + 1) left (committing_turn (places control₁ (place_at 0) (cells + 1)) top section)
-            (media array control₁) (media array₂ control₂) run)
-            (root_is : top ≡ r) (section-is : section ≡ turn_bytes 1 p next) where
-          abbrev told : ℕ
-          told = run.stores
-
+        module _ {array₂ control₂ : List ℕ} {told : ℕ}
+            (ran : RanTurn array control₁ (cells + 1) r (turn_bytes 1 p next) left (media array₂ control₂) told) where
           abbrev xs : List Store
           xs = turn_stores batch.cells r batch.section
 
           stored : Stored left xs (media array t.before) (media array₂ control₂) told
           stored =
-              subst₂ (λ (i : ℕ) (s : List ℕ).
-              Stored left (turn_stores batch.cells i s) (media array t.before) (media array₂ control₂) told)
-              root_is
-              (section-is ∙ ap (turn_bytes 1 p) (with-of next word refl))
-              (staged-turn line-staged top section (media array₂ control₂) run ran).stored
+              subst (λ (m : ℕ).
+              Stored left (turn_stores batch.cells r (turn_bytes 1 p m)) (media array t.before) (media array₂ control₂) told)
+              (with-of next word refl)
+              (staged-turn line-staged r (turn_bytes 1 p next) (media array₂ control₂) told ran)
 
           told-few : told ≤ left
           told-few = omega (arith, stored.number, length-take left xs)
@@ -333,51 +326,56 @@ module _ (f : ℕ) (keys : List ℕ) (r : ℕ) {h : ℕ} {a k c : List ℕ} {p m
         pub last_runs : Runs array control₁ n left
         last_runs = runs last-staged
 
-        module _ {array₂ control₂ : List ℕ} {run : Made} {top : ℕ} {section : List ℕ}
-            (ran : Ran n left (committing_turn (places control₁ (place_at 0) n) top section)
-            (media array control₁) (media array₂ control₂) run)
-            (root_is : top ≡ turned_root h keys d p) (section-is : section ≡ turn_bytes 0 0 0) where
+        module _ {array₂ control₂ : List ℕ} {told top : ℕ} (root_is : top ≡ turned_root h keys d p)
+            (ran : RanTurn array control₁ n top (turn_bytes 0 0 0) left (media array₂ control₂) told) where
           abbrev zs : List Store
           zs = turn_stores last.cells last.root last.section
 
-          last-makes : Makes left zs (media array t.before) (media array₂ control₂) run
-          last-makes =
-              subst₂ (λ (i : ℕ) (s : List ℕ).
-              Makes left (turn_stores last.cells i s) (media array t.before) (media array₂ control₂) run)
+          stored_last : Stored left zs (media array t.before) (media array₂ control₂) told
+          stored_last =
+              subst (λ (m : ℕ).
+              Stored left (turn_stores last.cells m (turn_bytes 0 0 0)) (media array t.before) (media array₂ control₂) told)
               root_is
-              section-is
-              (staged-turn last-staged top section (media array₂ control₂) run ran)
+              (staged-turn last-staged top (turn_bytes 0 0 0) (media array₂ control₂) told ran)
 
-          last-few : run.stores ≤ left
-          last-few = omega (arith, last-makes.stored.number, length-take left zs)
+          last-few : told ≤ left
+          last-few = omega (arith, stored_last.number, length-take left zs)
 
           are : stores_of h f keys a c p r front (set_bits rest) ≡ zs
           unfolding stores_for
           are = ap stores_for last-is ∙ append-nil zs
 
           -- all the stores of the turn, as far as the allowance goes
-          turned-stores : Stored allowance (all_stores h f keys a k c p r) (media a k) (media array₂ control₂)
-              (allowance - left + run.stores)
+          turned-stores : Stored allowance (all_stores h f keys a k c p r) (media a k) (media array₂ control₂) (allowance - left + told)
           turned-stores =
-              t.goes (media array₂ control₂) run.stores
-              (subst (λ (xs : List Store). Stored left xs (media array t.before) (media array₂ control₂) run.stores) (sym are)
-              last-makes.stored)
+              t.goes (media array₂ control₂) told
+              (subst (λ (xs : List Store). Stored left xs (media array t.before) (media array₂ control₂) told) (sym are) stored_last)
+
+          last-length : length (stores_of h f keys a c p r front (set_bits rest)) ≡ 2 * n + 3
+          last-length =
+              ap length are ∙ length-turn-stores last.cells last.root last.section
+              ∙ ap (λ (i : ℕ). 2 * i + 3) (sym last-staged.number)
 
           -- whether they are all is seen by the last batch
-          turned-all : run.whole ≡ leb (length (all_stores h f keys a k c p r)) (allowance - left + run.stores)
-          turned-all =
-              last-makes.all
-              ∙ same-leb (length zs) run.stores (length (all_stores h f keys a k c p r)) (allowance - left + run.stores)
-              (λ q.
-              let some : 0 < left = omega (arith, last-few, length-turn-stores last.cells last.root last.section) in
-              omega (arith, t.whole some, ap length are))
-              (λ q. omega (arith, t.so_far, ap length are))
+          turned-all : leb (2 * n + 3) told ≡ leb (length (all_stores h f keys a k c p r)) (allowance - left + told)
+          turned-all = go (lt-or-ge told (2 * n + 3))
+            where
+              all : ℕ
+              all = length (all_stores h f keys a k c p r)
+
+              sum : ℕ
+              sum = allowance - left + told
+
+              go : (told < 2 * n + 3) ⊎ (2 * n + 3 ≤ told) → leb (2 * n + 3) told ≡ leb all sum
+              go (inl q) = lt-leb (2 * n + 3) told q ∙ sym (lt-leb all sum (omega (arith, t.so_far, last-length)))
+              go (inr q) =
+                  le-leb (2 * n + 3) told q ∙ sym (le-leb all sum (omega (arith, t.whole (omega (arith, last-few)), last-length)))
 
           pub turned-makes : f ≡ family k → r ≡ root k
               → Makes allowance (page_stores h keys a k c p) (media a k) (media array₂ control₂)
-              (record { stores = allowance - left + run.stores; whole = run.whole })
+              (record { stores = allowance - left + told; whole = leb (2 * n + 3) told })
           unfolding page_stores
           turned-makes i e =
               subst₂ (λ (u x : ℕ). Makes allowance (all_stores h u keys a k c p x) (media a k) (media array₂ control₂)
-              (record { stores = allowance - left + run.stores; whole = run.whole }))
+              (record { stores = allowance - left + told; whole = leb (2 * n + 3) told }))
               i e (record { stored = turned-stores; all = turned-all })

@@ -1,14 +1,15 @@
 -- A turn of a page whose path is found, for the contracts of its steps. Assumes nothing.
-use Rattle.std.specs.Prelude.{ℕ, suc, ◌^◌, ◌<◌, ◌≡◌, true, List, length}
+use Rattle.std.specs.Prelude.{ℕ, suc, ◌^◌, ◌<◌, ◌≡◌, true, List, leb, length}
 use Rattle.bits.specs.Bits.{set_bits}
 use Rattle.memory_map.specs.Map.{pages}
 use Rattle.counter.specs.Counter.{major, minors}
 use Rattle.control.specs.Control.{control_length, family, root}
 use Rattle.cache.specs.Cache.{formed, current}
-use Rattle.journal.specs.Journal.{Store}
+use Rattle.journal.specs.Journal.{Store, Media, Stored}
 use Rattle.node.specs.Sized.{Sized}
 use Rattle.calls.specs.Turn.{turn_places, turn_front, batches_of, stores_for}
 use Rattle.call_laws.specs.Walk.{missing as missing_nodes, path_cells, with_path}
+use Rattle.turn_store.specs.declared.Made.{Made}
 
 -- page p in buffers of a module of depth h: the nodes that its path lacks, its counters, and the mask of the places still to turn
 pub record Page (h : ℕ) (a k c : List ℕ) (p missing ma : ℕ) (ms : List ℕ) (mask : ℕ) : Type 0 where
@@ -27,3 +28,8 @@ unfoldable pub page_stores : ℕ → List ℕ → List ℕ → List ℕ → List
 page_stores h keys a k c p =
     let d = with_path h a p (suc h) c in
     stores_for (batches_of h (family k) keys a d p (root k) (turn_front h k d p (path_cells h c p (suc h))) (turn_places k d p))
+
+-- those that an allowance makes, and whether they are all
+pub record Makes (allowance : ℕ) (xs : List Store) (m after : Media) (r : Made) : Type 0 where
+  pub stored : Stored allowance xs m after r.stores
+  pub all : r.whole ≡ leb (length xs) r.stores

@@ -4,14 +4,20 @@ ghost use Rattle.counter.specs.Counter.{turned};
 ghost use Rattle.control.specs.Control.{depth};
 ghost use Rattle.cache.specs.Cache.{current};
 ghost use Rattle.cache.specs.declared.Found.TheVariants.{Nothing};
-ghost use Rattle.journal.specs.Journal.{media, Makes};
+ghost use Rattle.journal.specs.Journal.{media};
 ghost use Rattle.calls.specs.Call.{buffers, ended};
 ghost use Rattle.calls.specs.Turn.{turned_root, turn_checked};
 ghost use Rattle.call_laws.specs.Walk.{path_cells, with_path};
-ghost use Rattle.turn_store.specs.Page.{Page, page_stores};
+ghost use Rattle.turn_store.specs.Page.{Page, page_stores, Makes};
 
 use answer::Answer;
-use journal::Made;
+
+// How many stores were made, and whether they are all.
+#[derive(Drop)]
+pub struct Made {
+    pub stores: u64,
+    pub whole: bool,
+}
 
 // Makes the stores of a turn's batches, a line in each, as far as the allowance goes: a batch makes none where nothing is left of it.
 fn run_batches(
@@ -46,19 +52,17 @@ fn run_batches(
         let minor = minors[j];
         turn_batch::put_line(family, keys, array, line, major, minor, control, held, left);
         let next = bits::without_lowest(rest);
-        let made = journal::run_turn(array, control, held + 1, old, 1, p as u64, next, left);
-        left -= made.stores;
+        left -= journal::run_turn(array, control, held + 1, old, 1, p as u64, next, left);
         rest = next;
         held = 0;
     }
     let n = turn_batch::put_last(
         h, family, keys, array, p, major, minors, block, rest, control, held, left,
     );
-    let last = journal::run_turn(array, control, n, root, 0, 0, 0, left);
-    let stores = allowance - left + last.stores;
+    let made = journal::run_turn(array, control, n, root, 0, 0, 0, left);
     Made {
-        stores,
-        whole: last.whole,
+        stores: allowance - left + made,
+        whole: 2 * n as u64 + 3 <= made,
     }
 }
 

@@ -207,14 +207,3 @@ fill-next s at n b h =
 -- a word read and written
 pub word-part : (s : List ℕ) (at n : ℕ) → at + n ≤ length s → Below 256 s → to_le n (from_le (part s at n)) ≡ part s at n
 word-part s at n h b = digits-exact 256 n (part s at n) (length_part s at n h) (below-take n (drop at s) (below-drop at s b))
-
--- n parts of w bytes that are the same, one after the other
-pub parts_same : (w n : ℕ) (s t : List ℕ) → ((i : ℕ) → i < n → part s (w * i) w ≡ part t (w * i) w) → part s 0 (w * n) ≡ part t 0 (w * n)
-parts_same w zero s t e = let none : w * 0 ≡ 0 = omega arith in ap (λ (k : ℕ). part s 0 k) none ∙ ap (λ (k : ℕ). part t 0 k) (sym none)
-parts_same w (suc n) s t e =
-    let next : w * suc n ≡ w * n + w = omega arith in
-    let last : 0 + w * n ≡ w * n = omega arith in
-    ap (part s 0) next ∙ part-add s 0 (w * n) w
-    ∙ ap₂ ◌++◌ (parts_same w n s t (λ i q. e i (omega arith)))
-    (ap (λ (k : ℕ). part s k w) last ∙ e n (omega arith) ∙ ap (λ (k : ℕ). part t k w) (sym last))
-    ∙ sym (part-add t 0 (w * n) w) ∙ ap (part t 0) (sym next)

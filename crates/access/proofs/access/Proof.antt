@@ -1,5 +1,5 @@
 -- `access::access` meets its contract. Assumes nothing.
-use mathlib.Core.Path.{refl, sym, ap, ◌∙◌}
+use mathlib.Core.Path.{sym, ap, ◌∙◌}
 use native.Mathlib.Omega.{arith}
 use borrow.Author.Rules.{rules}
 use Rattle.slot_map.specs.Slots.{cache_length}
@@ -53,7 +53,7 @@ returns-2 c =
     let a = (start at.before).args in
     entry-on a.keys.now a.line a.buffer.now (given at.before) (entered at)
     (at-depth a.cache.now a.control.now c.state.ensures c.before.depth.ensures
-    (test.is_open.ensures ∙ ap (is_open a.control.now) test.before.page-of.ensures) refl)
+    (test.is_open.ensures ∙ ap (is_open a.control.now) test.before.page-of.ensures))
 
 pub access-spec : {M : Type 1} → statement M
 access-spec =

@@ -1,5 +1,5 @@
 -- `access::turning` meets its contract. Assumes nothing.
-use mathlib.Core.Path.{◌≡◌, refl, sym, ap, ◌∙◌}
+use mathlib.Core.Path.{◌≡◌, sym, ap, ◌∙◌}
 use Prim.Native.Nat.{◌≤◌, ◌<◌}
 use native.Mathlib.Omega.{arith}
 use borrow.Author.Rules.{rules}
@@ -72,7 +72,7 @@ returns-4 c =
     let at = page.before.before in
     let a = (start at.before).args in
     turn_on _ _ _ (opened at.before) (inside page) (omega (arith, idle.before.count.ensures, idle.if3.false))
-    (at-depth a.cache.now a.control.now c.state.ensures at.depth.ensures c.before.other-open.ensures refl)
+    (at-depth a.cache.now a.control.now c.state.ensures at.depth.ensures c.before.other-open.ensures)
 
 pub turning-spec : {M : Type 1} → statement M
 turning-spec =

@@ -2,14 +2,14 @@
 use mathlib.Core.Path.{◌≡◌, sym, ap, ◌∙◌, subst}
 use Prim.Native.Nat.{ℕ, ◌+◌, ◌-◌, ◌*◌, ◌≤◌, ◌<◌, zero-le}
 use native.Mathlib.Omega.{arith}
-use Rattle.control.specs.Control.{places, in_map_lem}
+use Rattle.control.specs.Control.{places, in_map}
 use Rattle.control.proofs.Laws.{in-map-past, in-map-next, in-map-end}
 use Rattle.control.proofs.cells_below.Statement.{statement}
 use Rattle.control.proofs.cells_below.Tie as tie
 
 abbrev invariant-loop : tie.invariant-loop
 invariant-loop control n bound j₀ j =
-    (j ≤ n) × (in_map_lem bound (places control 24 n) ≡ in_map_lem bound (places control (24 + 80 * j) (n - j)))
+    (j ≤ n) × (in_map bound (places control 24 n) ≡ in_map bound (places control (24 + 80 * j) (n - j)))
 
 abbrev decreases-loop : tie.decreases-loop
 decreases-loop control n bound j₀ j = n - j
@@ -18,7 +18,7 @@ loop-holds : tie.Need-loop-init invariant-loop decreases-loop
 loop-holds c =
     let start = c.before.args in
     let all : start.n ≡ start.n - 0 = omega arith in
-    (zero-le, ap (λ (i : ℕ). in_map_lem start.bound (places start.control.now 24 i)) all)
+    (zero-le, ap (λ (i : ℕ). in_map start.bound (places start.control.now 24 i)) all)
 
 mul-load64 : tie.Need-overflow-mul-load64 invariant-loop decreases-loop
 mul-load64 c = omega arith

@@ -6,7 +6,7 @@ use borrow.Author.Rules.{rules}
 use borrow.Author.Tests.{not-true, not-false}
 use native.Mathlib.Omega.{arith}
 use Rattle.memory_map.specs.Map.{pages, cells}
-use Rattle.control.specs.Control.{depth, count, places, in_map_lem, valid_head}
+use Rattle.control.specs.Control.{depth, count, places, in_map, valid_head}
 use Rattle.control.proofs.Laws.{right-head, wrong-head, wrong-cells, right-cells}
 use Rattle.control.proofs.valid.Statement.{statement}
 use Rattle.control.proofs.valid.Tie as tie
@@ -43,12 +43,12 @@ cells-below-requires c κs =
 -- the cell numbers, as they were looked at
 below : (c : tie.After-cells-below)
     → let k = c.before.before.before.before.before.before.before.args.control.now in
-    c.cells-below.result ≡ in_map_lem (cells (depth k)) (places k 24 (count k))
+    c.cells-below.result ≡ in_map (cells (depth k)) (places k 24 (count k))
 below c =
     let k = c.before.before.before.before.before.before.before.args.control.now in
     let n = c.before.before in
     c.cells-below.ensures
-    ∙ ap₂ (λ (bound m : ℕ). in_map_lem bound (places k 24 m)) (c.before.cells.ensures ∙ ap cells n.before.depth.ensures)
+    ∙ ap₂ (λ (bound m : ℕ). in_map bound (places k 24 m)) (c.before.cells.ensures ∙ ap cells n.before.depth.ensures)
     n.count.ensures
 
 returns-2 : tie.Need-returns-2

@@ -3,7 +3,7 @@ use mathlib.Core.Path.{ap, ◌∙◌}
 use Prim.Native.Nat.{◌/◌}
 use native.Mathlib.Omega.{arith}
 use lib.ListN.{length}
-use Rattle.control.specs.Control.{in_map_lem}
+use Rattle.control.specs.Control.{in_map}
 use Rattle.journal.specs.Journal.{media}
 use Rattle.journal.proofs.Steps.{Committed, run-part, run-commit}
 use borrow.Author.Rules.{rules}
@@ -13,7 +13,8 @@ use Rattle.journal.proofs.run.Tie as tie
 returns : tie.Need-returns
 returns c =
     let a = c.before.before.before.args in
-    run-part a.array.now a.control.now a.n a.root a.allowance c.if1.true
+    let ran = run-part a.array.now a.control.now a.n a.root a.allowance c.if1.true in
+    (ran.left, ran.number)
 
 commit-requires : tie.Need-commit-requires
 commit-requires c κs = search rules
@@ -24,8 +25,8 @@ sub-left c = search rules
 sub-left-2 : tie.Need-overflow-sub-left-2
 sub-left-2 c = search rules
 
-add-stores : tie.Need-overflow-add-stores
-add-stores c = search rules
+add-result : tie.Need-overflow-add-result
+add-result c = search rules
 
 -- the start, seen from the commit
 abbrev begin : tie.After-commit → tie.Start
@@ -47,19 +48,16 @@ finish-requires c κs =
       commit.commit.auto.0 ∙ start.pre.0,
       (
         omega (arith, (committed commit).counted, start.pre.1.0.1),
-        ap (in_map_lem (length start.args.array.now / 72)) (committed commit).queued
+        ap (in_map (length start.args.array.now / 72)) (committed commit).queued
             ∙ start.pre.1.1 commit.before.before.if1.false,
       ),
     )
 
-add-stores-2 : tie.Need-overflow-add-stores-2
-add-stores-2 c =
+add-result-2 : tie.Need-overflow-add-result-2
+add-result-2 c =
     let called = c.before.before.before.before in
     let commit = called.before.before.before.before.before in
     omega (arith, (begin commit).requires.1.0.1, (committed commit).few _ _ _ called.finish.result called.finish.ensures)
-
-add-wanted : tie.Need-overflow-add-wanted
-add-wanted c = search rules
 
 same_length : tie.Need-same-length
 same_length c = search rules
@@ -70,8 +68,10 @@ same-length-2 c = search rules
 returns-2 : tie.Need-returns-2
 returns-2 c =
     let called = c.before.before.before.before in
+    let ran =
     (committed called.before.before.before.before.before).rest (media called.finish.new.0 called.finish.new.1.0)
-    called.finish.result called.finish.ensures
+    called.finish.result called.finish.ensures in
+    (ran.left, ran.number)
 
 pub run_spec : {M : Type 1} → statement M
 run_spec =
@@ -81,10 +81,9 @@ run_spec =
     commit-requires
     sub-left
     sub-left-2
-    add-stores
+    add-result
     finish-requires
-    add-stores-2
-    add-wanted
+    add-result-2
     same_length
     same-length-2
     returns-2)

@@ -6,13 +6,14 @@ use mathlib.Core.Bool.{cond}
 use lib.Dec.{eqb}
 use native.Mathlib.Omega.{arith}
 use borrow.Author.Rules.{rules}
-use borrow.Author.Tests.{not-true, not-false}
 use lib.ListN.{get_or}
 use Rattle.memory_map.specs.Map.{pages, page_of, on_path}
 use Rattle.slot_map.specs.Slots.{slot_of}
 use Rattle.counter.specs.Counter.{lag}
 use Rattle.cache.specs.Cache.{owner}
 use Rattle.memory_map.proofs.Laws.{page-inside}
+use Rattle.journal.specs.Journal.{media}
+use Rattle.journal.proofs.Steps.{Ran}
 use Rattle.call_laws.specs.Walk.{missing, with_path}
 use Rattle.call_laws.specs.Line.{line_cells}
 use Rattle.call_laws.proofs.Line.{Lent}
@@ -119,6 +120,21 @@ run-requires c κs =
 abbrev made : tie.After-run → tie.After-gather
 made c = c.before.before.before.before.before
 
+small : (c : tie.After-gather) → c.gather.result ≤ 8
+small c = let s = staged c in omega (arith, s.few, s.number)
+
+ran : (c : tie.After-run) → let g = made c in let tags = tagged g in let a = (start (found tags)).args in
+    Ran a.array.now g.gather.last.1.1.1.1.1.1.1.1.1.1.0 g.gather.result (get_or tags.path-tags.result a.h 0)
+    a.allowance
+    (media c.run.new.0 c.run.new.1.0) c.run.result
+ran c = record { left = c.run.ensures.0; number = c.run.ensures.1 }
+
+mul-if1 : tie.Need-overflow-mul-if1
+mul-if1 c = omega (arith, small (made c.before.before.before.before))
+
+add-if1 : tie.Need-overflow-add-if1
+add-if1 c = omega (arith, small (made c.before.before.before.before))
+
 same_length : tie.Need-same-length
 same_length c = search rules
 
@@ -130,17 +146,17 @@ same-length-3 c = search rules
 
 returns : tie.Need-returns
 returns c =
-    let r = c.before.before.before.before.before.before in
+    let r = c.before.before.before.before.before in
     let g = made r in
     let tags = tagged g in
     let at = found tags in
     let a = (start at).args in
     write-cut (ready at) a.family a.keys.now (lent at) a.major a.minor tags.path-tags.result (known tags) (staged g)
-    r.run.ensures refl _ (not-true _ c.if1.true)
+    refl (ran r) _ c.if1.true
 
 -- the stores are made
 abbrev ended : tie.Else1 → tie.After-run
-ended c = c.before.before.before.before.before.before
+ended c = c.before.before.before.before.before
 
 load-missing-requires : tie.Need-load-missing-requires
 load-missing-requires c κs =
@@ -197,7 +213,7 @@ returns-2 c =
     let b = a.block.now in
     let f : ℕ = cond (eqb (lag a.minor) 0) 0 1 in
     write_done (ready at) a.family a.keys.now (lent at) a.major a.minor t (known tags) (staged g)
-    r.run.ensures refl f (not-false _ test.if1.false) new.renew-path.new.1.1.1.1.1.0
+    refl (ran r) f test.if1.false new.renew-path.new.1.1.1.1.1.0
     (new.renew-path.ensures
     ∙ ap₂ {C = List ℕ} (λ (x : List ℕ) (i : ℕ). renewed_by x at.page-of.result b i t a.h) load.load-missing.ensures
     flag.block-flag.ensures
@@ -213,6 +229,8 @@ store-line-spec =
     mul-root
     array-read-root
     run-requires
+    mul-if1
+    add-if1
     same_length
     same-length-2
     same-length-3

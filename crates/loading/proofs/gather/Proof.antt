@@ -1,23 +1,16 @@
 -- `loading::gather` meets its contract. Assumes nothing.
 use mathlib.Core.Path.{◌≡◌, refl, sym, ap, ◌∙◌, subst}
-use mathlib.Core.Bool.{false}
-use mathlib.Core.List.{List}
 use Prim.Native.Nat.{ℕ, ◌+◌, ◌-◌, ◌≤◌}
 use native.Mathlib.Omega.{arith}
 use borrow.Author.Tests.{not-true, not-false}
 use lib.ListN.{length}
 use Rattle.memory_map.specs.Map.{InMap}
 use Rattle.memory_map.specs.Map.Item.{node}
-use Rattle.memory_map.proofs.Laws.{path-node, in-map-node}
-use Rattle.slot_map.proofs.Laws.{slot-within}
-use Rattle.control.specs.Control.{Cell}
+use Rattle.memory_map.proofs.Laws.{path-node}
 use Rattle.cache.specs.Cache.{holds}
 use Rattle.node.proofs.Laws.{Slotted, slotted}
-use Rattle.batch.specs.Batch.{staged_from}
-use Rattle.calls.specs.Path.{slot_cells}
 use Rattle.call_laws.specs.Walk.{node_cells}
-use Rattle.loading.proofs.Laws.{missing-cells, Gathering, gathering-none, gathering-room, gathering-held, gathering-more}
-use Rattle.loading.proofs.Laws.{gathering-all}
+use Rattle.loading.proofs.Laws.{Gathering, gathering-none, gathering-room, gathering-held, gathering-more, gathering-all}
 use Rattle.loading.proofs.gather.Statement.{statement}
 use Rattle.loading.proofs.gather.Tie as tie
 
@@ -57,53 +50,16 @@ found c = let s = start c in slotted _ _ _ _ s.pre.0.1.0 s.pre.0.1.1.0 (inside c
 holds-requires : tie.Need-holds-requires invariant-loop decreases-loop
 holds-requires c κs = let n = found c in (n.level, (n.word, n.slot))
 
-slot-of-requires : tie.Need-slot-of-requires invariant-loop decreases-loop
-slot-of-requires c κs = (found c.before.before).level
-
-add-gather-slot : tie.Need-overflow-add-gather-slot invariant-loop decreases-loop
-add-gather-slot c = omega (arith, (found c.before.before.before).word)
-
--- the cells of the node's slot
-lacks : (c : tie.After-slot-of invariant-loop decreases-loop) → let at = c.before.before.before in
-    holds (start at).args.cache.now (at.before.before.loop.n - 1) at.on-path.result ≡ false
-lacks c = sym c.before.before.holds.ensures ∙ not-true _ c.before.if1.true
-
-cells : (c : tie.After-slot-of invariant-loop decreases-loop) → let at = c.before.before.before in
-    slot_cells (start at).args.h (start at).args.cache.now c.slot_of.result (at.on-path.result + 1)
-    ≡ node_cells (start at).args.h (start at).args.cache.now (at.before.before.loop.n - 1) at.on-path.result
-cells c =
-    let at = c.before.before.before in
-    missing-cells (start at).args.h (start at).args.cache.now (at.before.before.loop.n - 1) at.on-path.result
-    c.slot_of.result (at.on-path.result + 1) (lacks c) c.slot_of.ensures refl
-
-gather-slot-requires : tie.Need-gather-slot-requires invariant-loop decreases-loop
-gather-slot-requires c κs =
-    let slot = c.before in
-    let at = slot.before.before.before in
+gather-node-requires : tie.Need-gather-node-requires invariant-loop decreases-loop
+gather-node-requires c κs =
+    let test = c.before.before in
+    let at = test.before in
     let s = start at in (
+      (s.pre.0.0, (s.pre.0.1.0, (s.pre.0.1.1.0, (s.pre.0.1.1.1.0, inside at)))),
       (
-        s.pre.0.0,
+        sym test.holds.ensures ∙ not-true _ c.before.if1.true,
         (
-          s.pre.0.1.0,
-          (
-            s.pre.0.1.1.0,
-            (
-              s.pre.0.1.1.1.0,
-              omega (
-                arith,
-                slot.slot_of.ensures,
-                slot-within s.args.h (at.before.before.loop.n - 1) at.on-path.result
-                    (in-map-node s.args.h (at.before.before.loop.n - 1) at.on-path.result (inside at)).0,
-              ),
-            ),
-          ),
-        ),
-      ),
-      (
-        at.before.before.loop.invariant.1 ∙ s.pre.1.0,
-        omega (
-          arith,
-          ap length (cells slot),
+          at.before.before.loop.invariant.1 ∙ s.pre.1.0,
           subst (λ (i : ℕ). at.before.before.loop.k + length
               (node_cells s.args.h s.args.cache.now (at.before.before.loop.n - 1) i) ≤ 8)
               (sym at.on-path.ensures)
@@ -119,17 +75,13 @@ loop-less c = omega arith
 loop-again : tie.Need-loop-preserved invariant-loop decreases-loop
 loop-again c =
     let call = c.before.before in
-    let slot = call.before.before in
-    let at = slot.before.before.before in
-    let loop = at.before.before.loop in
+    let at = call.before.before.before.before in
     let s = start at in (
       gathering-more s.args.h s.args.cache.now s.args.p s.args.allowance s.args.control.now
-          loop.invariant.0 (omega arith) call.gather-slot.new.1.1.1.1.0 call.gather-slot.result at.on-path.result
-          at.on-path.ensures
-          (call.gather-slot.ensures.0
-          ∙ ap (λ (x : List Cell). staged_from s.args.allowance loop.k x loop.control) (cells slot))
-          (call.gather-slot.ensures.1 ∙ ap (λ (x : List Cell). loop.k + length x) (cells slot)),
-      call.gather-slot.auto.1.1.1.1.0 ∙ loop.invariant.1,
+          at.before.before.loop.invariant.0 (omega arith) call.gather-node.new.1.1.1.1.0
+          call.gather-node.result at.on-path.result at.on-path.ensures call.gather-node.ensures.0
+          call.gather-node.ensures.1,
+      call.gather-node.auto.1.1.1.1.0 ∙ at.before.before.loop.invariant.1,
     )
 
 loop-less-2 : tie.Need-loop-smaller-2 invariant-loop decreases-loop
@@ -165,9 +117,7 @@ gather-spec =
     sub-n
     on-path-requires
     holds-requires
-    slot-of-requires
-    add-gather-slot
-    gather-slot-requires
+    gather-node-requires
     loop-less
     loop-again
     loop-less-2

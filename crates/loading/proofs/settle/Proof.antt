@@ -1,9 +1,10 @@
 -- `loading::settle` meets its contract. Assumes nothing.
 use mathlib.Core.Path.{◌≡◌, ◌∙◌}
-use Prim.Native.Nat.{suc}
+use Prim.Native.Nat.{suc, ◌≤◌}
 use native.Mathlib.Omega.{arith}
 use borrow.Author.Rules.{rules}
-use borrow.Author.Tests.{not-true, not-false}
+use Rattle.journal.specs.Journal.{media}
+use Rattle.journal.proofs.Steps.{Ran}
 use Rattle.call_laws.specs.Walk.{missing, path_cells}
 use Rattle.call_laws.proofs.Staged.{Staged, staged-inside}
 use Rattle.path.proofs.Ready.{Ready, few}
@@ -67,6 +68,15 @@ run-requires c κs =
       ((omega (arith, s.some, s.number), omega (arith, s.few, s.number)), staged-inside s),
     )
 
+small : (c : tie.After-gather) → c.gather.result ≤ 8
+small c = let s = staged c in omega (arith, s.few, s.number)
+
+mul-if2 : tie.Need-overflow-mul-if2
+mul-if2 c = omega (arith, small c.before.before.before.before.before.before.before.before.before)
+
+add-if2 : tie.Need-overflow-add-if2
+add-if2 c = omega (arith, small c.before.before.before.before.before.before.before.before.before)
+
 same_length : tie.Need-same-length
 same_length c = search rules
 
@@ -80,11 +90,17 @@ same-length-3 c = search rules
 abbrev made : tie.After-run → tie.After-gather
 made c = c.before.before.before.before.before
 
+ran : (c : tie.After-run)
+    → let g = made c in let a = (start (known g)).args in
+    Ran a.array.now g.gather.last.1.1.1.0 g.gather.result g.before.before.before.root.result a.allowance
+    (media c.run.new.0 c.run.new.1.0) c.run.result
+ran c = record { left = c.run.ensures.0; number = c.run.ensures.1 }
+
 returns-2 : tie.Need-returns-2
 returns-2 c =
-    let r = c.before.before.before.before.before.before in
+    let r = c.before.before.before.before.before in
     let g = made r in
-    settle-cut (ready (known g)) (staged g) g.before.before.before.root.ensures r.run.ensures (not-true _ c.if2.true)
+    settle-cut (ready (known g)) (staged g) g.before.before.before.root.ensures (ran r) c.if2.true
 
 load-requires : tie.Need-load-requires
 load-requires c κs = search rules
@@ -101,10 +117,10 @@ same-length-6 c = search rules
 returns-3 : tie.Need-returns-3
 returns-3 c =
     let call = c.before.before in
-    let r = call.before.before.before.before.before.before.before.before.before in
+    let r = call.before.before.before.before.before.before.before.before in
     let g = made r in
-    settle-done (ready (known g)) (staged g) g.before.before.before.root.ensures r.run.ensures
-    (not-false _ call.before.before.before.if2.false) call.load.new.1.1.1.0 call.load.ensures
+    settle-done (ready (known g)) (staged g) g.before.before.before.root.ensures (ran r)
+    call.before.before.before.if2.false call.load.new.1.1.1.0 call.load.ensures
 
 pub settle-spec : {M : Type 1} → statement M
 settle-spec =
@@ -114,6 +130,8 @@ settle-spec =
     root-requires
     gather-requires
     run-requires
+    mul-if2
+    add-if2
     same_length
     same-length-2
     same-length-3

@@ -1,5 +1,5 @@
 -- `turn_store::run_batches` meets its contract. Assumes nothing.
-use mathlib.Core.Path.{refl, sym, ap, ◌∙◌}
+use mathlib.Core.Path.{sym, ap, ◌∙◌}
 use mathlib.Core.List.{List}
 use Prim.Native.Nat.{ℕ, ◌+◌, ◌≤◌, ◌<◌}
 use native.Mathlib.Omega.{arith}
@@ -156,11 +156,11 @@ run-turn-requires c κs =
     )
 
 sub-left : tie.Need-overflow-sub-left invariant-loop decreases-loop
-sub-left c = ran-few c.before.before.before.before.before.run-turn.ensures
+sub-left c = ran-few _ _ _ c.before.before.before.before.run-turn.ensures.1
 
 loop-less : tie.Need-loop-smaller invariant-loop decreases-loop
 loop-less c =
-    let next = c.before.before.before.before.before.before.before.before in
+    let next = c.before.before.before.before.before.before.before in
     let j = low next in
     let at = turn j in
     omega (
@@ -171,14 +171,14 @@ loop-less c =
 
 loop-again : tie.Need-loop-preserved invariant-loop decreases-loop
 loop-again c =
-    let r = c.before.before.before.before.before in
+    let r = c.before.before.before.before in
     let next = r.before.before.before in
     let j = low next in
     let at = turn j in
     λ k g. turning-more _ (entry at).args.keys.now _ g (at.loop.inv k g) (several j.before) j.lowest.ensures.0
     j.lowest.ensures.1 next.without-lowest.ensures next.without-lowest.type-inv
     next.before.before.before.put-line.ensures
-    r.run-turn.ensures refl refl
+    (record { left = r.run-turn.ensures.0; number = r.run-turn.ensures.1 })
 
 -- fewer than two are left
 few-left : (c : tie.Else1 invariant-loop decreases-loop) → length (set_bits c.before.before.loop.rest) < 2
@@ -237,39 +237,45 @@ run-turn-requires-2 c κs =
 abbrev closed : tie.After-run-turn2 invariant-loop decreases-loop → tie.After-put-last invariant-loop decreases-loop
 closed c = c.before.before.before.before.before
 
-sub-stores : tie.Need-overflow-sub-stores invariant-loop decreases-loop
-sub-stores c =
+sub-t56 : tie.Need-overflow-sub-t56 invariant-loop decreases-loop
+sub-t56 c =
     let out = left-loop (closed c.before.before.before.before) in
     omega (arith, (turning out.before.before).within)
 
-add-stores : tie.Need-overflow-add-stores invariant-loop decreases-loop
-add-stores c =
-    let r = c.before.before.before.before.before in
+add-t57 : tie.Need-overflow-add-t57 invariant-loop decreases-loop
+add-t57 c =
+    let r = c.before.before.before.before in
     let at = (left-loop (closed r)).before.before in
-    omega (arith, (turning at).within, ran-few r.run-turn2.ensures, (entry at).fits.allowance.fits)
+    omega (arith, (turning at).within, ran-few _ _ _ r.run-turn2.ensures.1, (entry at).fits.allowance.fits)
+
+mul-t59 : tie.Need-overflow-mul-t59 invariant-loop decreases-loop
+mul-t59 c = omega (arith, (last (closed c.before.before.before.before)).few)
+
+add-t60 : tie.Need-overflow-add-t60 invariant-loop decreases-loop
+add-t60 c = omega (arith, (last (closed c.before.before.before.before)).few)
 
 same_length : tie.Need-same-length invariant-loop decreases-loop
 same_length c =
-    let r = c.before.before.before.before.before in
+    let r = c.before.before.before.before in
     let put = closed r in
     let at = (left-loop put).before.before in
     r.run-turn2.auto.1.0 ∙ put.put_last.kept.1.1.1.1.1.1.1.1.1.0 ∙ (turning at).size ∙ sym (entry at).pre.0.1.control
 
 same-length-2 : tie.Need-same-length-2 invariant-loop decreases-loop
 same-length-2 c =
-    let r = c.before.before.before.before.before in
+    let r = c.before.before.before.before in
     let at = (left-loop (closed r)).before.before in
     r.run-turn2.auto.0 ∙ (turning at).formed.array-length ∙ sym (entry at).pre.0.1.sized.array
 
 returns : tie.Need-returns invariant-loop decreases-loop
 returns c =
-    let r = c.before.before.before.before.before in
+    let r = c.before.before.before.before in
     let put = closed r in
     let out = left-loop put in
     let at = out.before.before in
     turned-makes _ (entry at).args.keys.now _ (begins at.before) (turning at) (few-left out) (entry at).pre.1.0
-    put.put_last.ensures.0 put.put_last.ensures.1
-    r.run-turn2.ensures (entry at).pre.1.1 refl
+    put.put_last.ensures.0 put.put_last.ensures.1 (entry at).pre.1.1
+    (record { left = r.run-turn2.ensures.0; number = r.run-turn2.ensures.1 })
     at.before.before.before.before.before.before.before.before.family.ensures
     at.before.before.before.before.before.before.root.ensures
 
@@ -297,8 +303,10 @@ run-batches-spec =
     loop-again
     put-last-requires
     run-turn-requires-2
-    sub-stores
-    add-stores
+    sub-t56
+    add-t57
+    mul-t59
+    add-t60
     same_length
     same-length-2
     returns)
