@@ -1,4 +1,6 @@
 // The refusals that calls have in common, from their inputs and from the state: 0 where there is none.
+#![tactic(auto)]
+
 ghost use Rattle.std.specs.Prelude.{◌≡◌, not, [], ◌∷◌, ◌≤◌, length};
 ghost use Rattle.slot_map.specs.Slots.{cache_length};
 ghost use Rattle.cache.specs.Cache.{formed};

@@ -1,4 +1,6 @@
 // What a call answers, and what the C side is told of it.
+#![tactic(auto)]
+
 ghost use Rattle.std.specs.Prelude.{◌≡◌};
 ghost use Rattle.answer.specs.declared.Answer.TheVariants.{Refused};
 

@@ -1,4 +1,6 @@
 // What the bench program prints of an answer, behind the first bytes of a buffer.
+#![tactic(auto)]
+
 ghost use Rattle.std.specs.Prelude.{◌+◌, ◌≤◌, length};
 ghost use Rattle.number_text.specs.Text.{Appended};
 ghost use Rattle.answer_text.specs.Printed.{answer_text, read_text, recover_text};

@@ -1,5 +1,7 @@
 // Staging the cells of a batch in the queue of the control record. A cell takes a place, 80 bytes: its number, 8 bytes, and
 // its 72 bytes. Each is a store of its own, made only as far as the allowance goes.
+#![tactic(auto)]
+
 ghost use Rattle.std.specs.Prelude.{◌≡◌, ◌<◌, length};
 ghost use Rattle.control.specs.Control.{control_length};
 ghost use Rattle.batch.specs.Batch.{cell_with, shadow_for, staged};

@@ -1,4 +1,6 @@
 // The calls that the bench program makes: a command run on the module, and the line that it prints.
+#![tactic(auto)]
+
 ghost use Rattle.std.specs.Prelude.{◌≡◌, ◌≤◌, length, take};
 ghost use Rattle.commands.specs.declared.Command.TheVariants.{Write, Read, Recover};
 ghost use Rattle.calls.specs.Call.{buffers};

@@ -1,4 +1,6 @@
 // The bench program: formats a module of depth 1 and family 0, runs the commands of its standard input on it, and prints a line for each.
+#![tactic(auto)]
+
 ghost use Rattle.std.specs.Prelude.{◌≡◌};
 ghost use Rattle.calls.specs.Call.{buffers};
 ghost use Rattle.bench_session.specs.Session.{state_of, line_ended, byte_taken, bytes_taken, Took, Served};

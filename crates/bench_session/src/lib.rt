@@ -1,4 +1,6 @@
 // What the bench program keeps from one command to the next, and whether its input has a last line.
+#![tactic(auto)]
+
 ghost use Rattle.std.specs.Prelude.{◌≡◌};
 ghost use Rattle.bench_session.specs.Session.{settled, allowance_after, has_line};
 

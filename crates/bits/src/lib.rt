@@ -1,4 +1,6 @@
 // The set bits of a 64-bit number, lowest first.
+#![tactic(auto)]
+
 ghost use Rattle.std.specs.Prelude.{◌≡◌, ◌<◌, length, get_or, drop};
 ghost use Rattle.bits.specs.Bits.{set_bits};
 

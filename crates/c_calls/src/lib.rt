@@ -1,4 +1,6 @@
 // The calls for C: include/nightvelvet.h. A slice is a pointer and a length in C.
+#![tactic(auto)]
+
 ghost use Rattle.std.specs.Prelude.{◌≡◌};
 ghost use Rattle.calls.specs.Call.{buffers};
 ghost use Rattle.calls.specs.Read.{read as read_of};

@@ -1,4 +1,6 @@
 // The numbers of an answer, as C gets them: three words in a buffer, and a code.
+#![tactic(auto)]
+
 ghost use Rattle.std.specs.Prelude.{◌≡◌, [], ◌∷◌, ◌<◌, length};
 ghost use Rattle.words.specs.Bytes.{bytes_of};
 ghost use Rattle.answer.specs.Answer.{code_of, values_of};

@@ -1,5 +1,7 @@
 // The primitives for C, as host tests and the benchmark call them. A slice is a pointer and a length in C.
 // Each answers 0, or 1 where a length is wrong, and then leaves `out` as it was.
+#![tactic(auto)]
+
 ghost use Rattle.std.specs.Prelude.{◌≡◌};
 ghost use Rattle.c_primitives.specs.Primitives.{code, block_sizes, block_out, hash_sizes, hash_out};
 

@@ -1,4 +1,6 @@
 // The cache's slots, and whether the cache is formed.
+#![tactic(auto)]
+
 ghost use Rattle.std.specs.Prelude.{◌≡◌, not, ◌+◌, ◌*◌, ◌≤◌, length};
 ghost use Rattle.slot_map.specs.Slots.{cache_length};
 ghost use Rattle.cache.specs.Cache.{from, any_owner, owner as owner_of, dirty as dirty_of, formed as is_formed};

@@ -1,4 +1,6 @@
 // The candidates for a line's minor in a module without phase bytes: the stored minor and the next three, and the choice among them.
+#![tactic(auto)]
+
 ghost use Rattle.std.specs.Prelude.{◌≡◌, true, ◌&&◌, ◌<◌, leb, length};
 ghost use Rattle.candidates.specs.Candidates.{all_zero, also as also_of, choice};
 ghost use Rattle.candidates.specs.Hashed.{hash_fits};

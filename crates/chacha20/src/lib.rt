@@ -1,4 +1,6 @@
 // The rounds of ChaCha20, RFC 8439. The state is four rows of four words, by value.
+#![tactic(auto)]
+
 ghost use Rattle.std.specs.Prelude.{◌≡◌, ◌<◌};
 ghost use Rattle.chacha20.specs.ChaCha20.{rounds, diagonal_round, column_round};
 ghost use Rattle.chacha20.specs.Rows.{flat, sum_row, mix_row, quarter_rows, turned};

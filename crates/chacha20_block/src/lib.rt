@@ -1,4 +1,6 @@
 // The ChaCha20 block function of RFC 8439.
+#![tactic(auto)]
+
 ghost use Rattle.std.specs.Prelude.{◌≡◌, ◌++◌, ◌+◌, ◌≤◌, length, get_or};
 ghost use Rattle.words.specs.Bytes.{words_of, bytes_of, part, put};
 ghost use Rattle.chacha20.specs.ChaCha20.{constants, serialised, block as chacha_block};

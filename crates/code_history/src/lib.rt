@@ -1,1 +1,3 @@
 // The history rule said of the code: no function of its own.
+#![tactic(auto)]
+

@@ -1,4 +1,6 @@
 // The bench program's commands: their language, and the command of a line that has been parsed.
+#![tactic(auto)]
+
 ghost use Rattle.std.specs.Prelude.{◌≡◌};
 ghost use Rattle.commands.specs.Language.{given};
 ghost use Rattle.commands.specs.Machine.{no_number, one_number, two_numbers, found};

@@ -1,4 +1,6 @@
 // The persistent control record: its fields, and whether it is valid.
+#![tactic(auto)]
+
 ghost use Rattle.std.specs.Prelude.{◌≡◌, ◌<◌, ◌≤◌, length};
 ghost use Rattle.words.specs.Bytes.{put};
 ghost use Rattle.memory_map.specs.Map.{pages as pages_of};

@@ -1,4 +1,6 @@
 // Copying bytes from slice to slice, and filling with equal ones.
+#![tactic(auto)]
+
 ghost use Rattle.std.specs.Prelude.{◌≡◌, ◌+◌, ◌*◌, ◌≤◌, length, replicate};
 ghost use Rattle.words.specs.Bytes.{part, put};
 

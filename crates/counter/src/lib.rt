@@ -1,4 +1,6 @@
 // The counter block of a page: its major and its minors read, one minor replaced or brought forward, and all of them a byte each.
+#![tactic(auto)]
+
 ghost use Rattle.std.specs.Prelude.{◌≡◌, ◌<◌, length};
 ghost use Rattle.counter.specs.Counter.{
   with_minor,

@@ -1,4 +1,6 @@
 // Decimal numbers in text, read digit by digit.
+#![tactic(auto)]
+
 ghost use Rattle.std.specs.Prelude.{◌≡◌};
 ghost use Rattle.decimal.specs.Decimal.{digit_after, with_digit};
 

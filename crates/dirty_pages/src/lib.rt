@@ -1,4 +1,6 @@
 // The list of dirty pages, as a call.
+#![tactic(auto)]
+
 ghost use Rattle.std.specs.Prelude.{ℕ, ◌*◌, ◌<◌, ◌≤◌, ◌≡◌, length};
 ghost use Rattle.words.specs.Bytes.{bytes_of};
 ghost use Rattle.cache.specs.Cache.{owner as owner_of, dirty as dirty_of};

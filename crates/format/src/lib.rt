@@ -1,4 +1,6 @@
 // Format, as a call.
+#![tactic(auto)]
+
 ghost use Rattle.std.specs.Prelude.{◌≡◌, ◌≤◌, length};
 ghost use Rattle.control.specs.Control.{control_length, mark_of, fresh_control};
 ghost use Rattle.calls.specs.Call.{buffers, ended};

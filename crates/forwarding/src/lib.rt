@@ -1,4 +1,6 @@
 // The counters of the pages that the shadow lists, brought forward.
+#![tactic(auto)]
+
 ghost use Rattle.std.specs.Prelude.{◌≡◌, cond, ℕ, ◌+◌, ◌*◌, ◌<◌, ◌≤◌, length, get_or, take};
 ghost use Rattle.counter.specs.Counter.{counter_block};
 ghost use Rattle.control.specs.Control.{control_length, is_open};

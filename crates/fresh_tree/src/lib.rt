@@ -1,4 +1,6 @@
 // The tree of an empty module: the nodes above the counter blocks.
+#![tactic(auto)]
+
 ghost use Rattle.std.specs.Prelude.{◌≡◌, ◌+◌, ◌*◌, ◌≤◌, replicate};
 ghost use Rattle.words.specs.Bytes.{put};
 ghost use Rattle.memory_map.specs.Map.Item.{node};

@@ -1,4 +1,6 @@
 // The stores of a batch, made on the lent array and control record as far as an allowance goes.
+#![tactic(auto)]
+
 ghost use Rattle.std.specs.Prelude.{◌≡◌, true, ◌∷◌, map, min, ◌+◌, ◌-◌, ◌*◌, ◌/◌, ◌<◌, ◌≤◌, length};
 ghost use Rattle.words.specs.Bytes.{to_le, put};
 ghost use Rattle.control.specs.Control.{control_length, place_at, places, turn_bytes, queue, in_map, count, count_at};

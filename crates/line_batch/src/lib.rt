@@ -1,4 +1,6 @@
 // The batch of a write: the cells of its path, its counter block, its data cell.
+#![tactic(auto)]
+
 ghost use Rattle.std.specs.Prelude.{◌≡◌, true, suc, ◌+◌, ◌^◌, ◌<◌, ◌≤◌, length};
 ghost use Rattle.memory_map.specs.Map.{pages, lines, page_of};
 ghost use Rattle.slot_map.specs.Slots.{cache_length};

@@ -1,4 +1,6 @@
 // Storing a line whose path is found: the stores of its write, and the path's slots after them.
+#![tactic(auto)]
+
 ghost use Rattle.std.specs.Prelude.{◌≡◌, true, cond, suc, ◌<◌, length, eqb};
 ghost use Rattle.memory_map.specs.Map.{lines, page_of};
 ghost use Rattle.counter.specs.Counter.{lag};

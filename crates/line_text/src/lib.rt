@@ -1,4 +1,6 @@
 // The text of a line whose counter is known: whether its data cell fits the counter, and what it reads as.
+#![tactic(auto)]
+
 ghost use Rattle.std.specs.Prelude.{◌≡◌, cond, ◌+◌, ◌*◌, ◌^◌, ◌<◌, ◌≤◌, eqb, length};
 ghost use Rattle.pad.specs.Pad.{pad as pad_of, xor_bytes};
 ghost use Rattle.side.specs.Side.{side_fits};

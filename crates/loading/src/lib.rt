@@ -1,4 +1,6 @@
 // Loading a path: its batch, its stores, its slots.
+#![tactic(auto)]
+
 ghost use Rattle.std.specs.Prelude.{◌≡◌, true, false, suc, ◌+◌, ◌<◌, ◌≤◌, length};
 ghost use Rattle.memory_map.specs.Map.{pages, InMap};
 ghost use Rattle.memory_map.specs.Map.Item.{node};

@@ -1,4 +1,6 @@
 // The map of a module of depth 1, 2 or 3: where lines, counter blocks, nodes and shadow entries lie.
+#![tactic(auto)]
+
 ghost use Rattle.std.specs.Prelude.{◌≡◌, ◌+◌, ◌%◌, ◌≤◌};
 ghost use Rattle.memory_map.specs.Map.{
   node,

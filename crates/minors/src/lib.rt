@@ -1,4 +1,6 @@
 // The minors of a counter block as bytes, and back.
+#![tactic(auto)]
+
 ghost use Rattle.std.specs.Prelude.{◌≡◌, ℕ, ◌+◌, ◌*◌, ◌^◌, ◌<◌, ◌≤◌, length, get_or};
 ghost use Rattle.words.specs.Bytes.{number, digits, part, put};
 ghost use Rattle.counter.specs.Counter.{counter_block, minors};

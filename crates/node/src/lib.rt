@@ -1,4 +1,6 @@
 // Counter blocks and nodes where they are: in a slot of the cache or in their cell of the array.
+#![tactic(auto)]
+
 ghost use Rattle.std.specs.Prelude.{◌≡◌, ◌+◌, ◌*◌, ◌^◌, ◌<◌, ◌≤◌, length};
 ghost use Rattle.memory_map.specs.Map.Item.{node};
 ghost use Rattle.memory_map.specs.Map.{InMap};

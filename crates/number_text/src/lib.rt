@@ -1,4 +1,6 @@
 // Text, and numbers in decimal digits, behind the first bytes of a buffer.
+#![tactic(auto)]
+
 ghost use Rattle.std.specs.Prelude.{◌≡◌, ◌++◌, ◌+◌, ◌≤◌, ◌<◌, length, drop};
 ghost use Rattle.number_text.specs.Text.{printed, Appended};
 

@@ -1,4 +1,6 @@
 // The pad of a line, and encryption by it.
+#![tactic(auto)]
+
 ghost use Rattle.std.specs.Prelude.{◌≡◌, ◌+◌, ◌≤◌, length, get_or};
 ghost use Rattle.words.specs.Bytes.{to_le, bytes_of, part, put};
 ghost use Rattle.chacha20.specs.Rows.{row};

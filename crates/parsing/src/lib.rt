@@ -1,4 +1,6 @@
 // The parser of the bench program's commands: it takes a line byte by byte.
+#![tactic(auto)]
+
 ghost use Rattle.std.specs.Prelude.{◌≡◌};
 ghost use Rattle.commands.specs.Machine.{after_byte, second_part, after_space, next};
 

@@ -1,4 +1,6 @@
 // The path of a page from the top to its counter block, found without touching the cache.
+#![tactic(auto)]
+
 ghost use Rattle.std.specs.Prelude.{◌≡◌, suc, ◌<◌, ◌≤◌, length, eqb};
 ghost use Rattle.memory_map.specs.Map.{pages, on_path, cell_of, lines as lines_of};
 ghost use Rattle.memory_map.specs.Map.Item.{node};

@@ -1,4 +1,6 @@
 // What the bench program prints for a command: its line, in a buffer.
+#![tactic(auto)]
+
 ghost use Rattle.std.specs.Prelude.{◌≡◌, ◌≤◌, length, take};
 ghost use Rattle.answer_text.specs.Printed.{write_line, read_line, recover_line, line_of};
 

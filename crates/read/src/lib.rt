@@ -1,4 +1,6 @@
 // Reading a line.
+#![tactic(auto)]
+
 ghost use Rattle.std.specs.Prelude.{◌≡◌, true, ◌<◌, length};
 ghost use Rattle.memory_map.specs.Map.{lines};
 ghost use Rattle.control.specs.Control.{control_length, depth as depth_of};

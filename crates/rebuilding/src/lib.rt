@@ -1,4 +1,6 @@
 // The nodes above the counter blocks rebuilt from their children, and the tag of the top.
+#![tactic(auto)]
+
 ghost use Rattle.std.specs.Prelude.{◌≡◌, suc, ◌+◌, ◌<◌, ◌≤◌, length, take, drop};
 ghost use Rattle.memory_map.specs.Map.Item.{node};
 ghost use Rattle.memory_map.specs.Map.{InMap, slots as slots_of};

@@ -1,4 +1,6 @@
 // Recovery after a power failure, as a call.
+#![tactic(auto)]
+
 ghost use Rattle.std.specs.Prelude.{◌≡◌, length, take};
 ghost use Rattle.memory_map.specs.Map.{slots as slots_of};
 ghost use Rattle.control.specs.Control.{control_length, depth as depth_of};

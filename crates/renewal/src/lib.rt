@@ -1,4 +1,6 @@
 // Renewing a path: its tags, its slots.
+#![tactic(auto)]
+
 ghost use Rattle.std.specs.Prelude.{◌≡◌, ℕ, suc, ◌+◌, ◌*◌, ◌<◌, ◌≤◌, length, get_or};
 ghost use Rattle.words.specs.Bytes.{to_le, put};
 ghost use Rattle.memory_map.specs.Map.{pages, on_path};

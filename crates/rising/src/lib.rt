@@ -1,4 +1,6 @@
 // Four numbers in rising sequence.
+#![tactic(auto)]
+
 ghost use Rattle.std.specs.Prelude.{◌≡◌, length};
 ghost use Rattle.words.specs.Bytes.{bytes_of};
 ghost use Rattle.rising.specs.Rising.{smaller as smaller_of, larger as larger_of, merged, rising};

@@ -1,4 +1,6 @@
 // The rotation of a word.
+#![tactic(auto)]
+
 ghost use Rattle.std.specs.Prelude.{◌≡◌, ◌<◌};
 ghost use Rattle.rotation.specs.Rotate.{rotl};
 

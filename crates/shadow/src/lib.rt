@@ -1,4 +1,6 @@
 // The owners that the shadow lists, and the slot that keeps owners from being formed.
+#![tactic(auto)]
+
 ghost use Rattle.std.specs.Prelude.{◌≡◌, ◌+◌, ◌*◌, ◌≤◌, length, take};
 ghost use Rattle.words.specs.Bytes.{from_le, part};
 ghost use Rattle.memory_map.specs.Map.{array_length, slots as slots_of};

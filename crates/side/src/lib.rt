@@ -1,4 +1,6 @@
 // The side bytes of a data cell: made for a counter, and held against a cell, in a module of either family.
+#![tactic(auto)]
+
 ghost use Rattle.std.specs.Prelude.{◌≡◌, length};
 ghost use Rattle.words.specs.Bytes.{from_le};
 ghost use Rattle.side.specs.Side.{side_bytes, side_fits};

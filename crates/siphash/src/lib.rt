@@ -1,4 +1,6 @@
 // The rounds of SipHash-2-4. The state is four words, by value.
+#![tactic(auto)]
+
 ghost use Rattle.std.specs.Prelude.{◌≡◌};
 ghost use Rattle.siphash.specs.SipHash.{sip_round, initial, compress as compressed, finalize as finalized};
 

@@ -1,4 +1,6 @@
 // SipHash-2-4 of messages.
+#![tactic(auto)]
+
 ghost use Rattle.std.specs.Prelude.{◌≡◌, ◌*◌, ◌≤◌, ◌<◌, length, set};
 ghost use Rattle.words.specs.Bytes.{words_of};
 ghost use Rattle.siphash.specs.SipHash.{initial, last_word, sip_hash, compress_all};

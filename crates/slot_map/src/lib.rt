@@ -1,4 +1,6 @@
 // The slots of the cache: its length, and which slot a counter block or node may take.
+#![tactic(auto)]
+
 ghost use Rattle.std.specs.Prelude.{◌≡◌, ◌<◌, ◌≤◌};
 ghost use Rattle.memory_map.specs.Map.{slots as slots_of};
 ghost use Rattle.slot_map.specs.Slots.{cache_length, slot_of, level_of, belongs as belongs_to};

@@ -1,4 +1,6 @@
 // The tags of nodes and of data cells.
+#![tactic(auto)]
+
 ghost use Rattle.std.specs.Prelude.{◌≡◌, cond, [], ◌∷◌, ◌++◌, ◌*◌, ◌<◌, eqb, length};
 ghost use Rattle.words.specs.Bytes.{from_le, to_le, part, put, words_of};
 ghost use Rattle.siphash.specs.SipHash.{initial, compress_all, finalize as finalized};

@@ -1,4 +1,6 @@
 // Turning a page.
+#![tactic(auto)]
+
 ghost use Rattle.std.specs.Prelude.{◌≡◌, true, suc, ◌<◌, length};
 ghost use Rattle.memory_map.specs.Map.{pages};
 ghost use Rattle.control.specs.Control.{control_length, depth as depth_of};

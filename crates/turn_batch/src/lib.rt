@@ -1,4 +1,6 @@
 // The cells of a turn's batches, staged: those that the first one starts with, a line, and those of the last one.
+#![tactic(auto)]
+
 ghost use Rattle.std.specs.Prelude.{◌≡◌, true, ◌∷◌, map, suc, ◌+◌, ◌*◌, ◌^◌, ◌<◌, ◌≤◌, length};
 ghost use Rattle.bits.specs.Bits.{set_bits};
 ghost use Rattle.memory_map.specs.Map.{pages, array_length};

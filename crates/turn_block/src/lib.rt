@@ -1,4 +1,6 @@
 // The counter block of a page that is turned, and the lines that are.
+#![tactic(auto)]
+
 ghost use Rattle.std.specs.Prelude.{◌≡◌, map, suc, ◌^◌, ◌<◌, length};
 ghost use Rattle.bits.specs.Bits.{set_bits};
 ghost use Rattle.counter.specs.Counter.{counter_block, written_from, turned_minor};

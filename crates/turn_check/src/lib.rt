@@ -1,4 +1,6 @@
 // The lines of a page that is to be turned: which they are, and whether they fit their counters.
+#![tactic(auto)]
+
 ghost use Rattle.std.specs.Prelude.{◌≡◌, cond, ◌+◌, ◌*◌, ◌≤◌, length};
 ghost use Rattle.bits.specs.Bits.{set_bits};
 ghost use Rattle.counter.specs.Counter.{written_from};

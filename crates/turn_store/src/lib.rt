@@ -1,4 +1,6 @@
 // Turning a page whose path is found and whose lines are checked: the stores of its batches, and the path's slots after them.
+#![tactic(auto)]
+
 ghost use Rattle.std.specs.Prelude.{◌≡◌, suc, length};
 ghost use Rattle.counter.specs.Counter.{turned};
 ghost use Rattle.control.specs.Control.{depth};

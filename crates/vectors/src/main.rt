@@ -1,5 +1,7 @@
 // Runs published vectors of ChaCha20 and SipHash-2-4 and prints each result, which the gate holds to the file `stdout`.
 // That file was written by tests/vectors.c, with OpenSSL's ChaCha20 and libsodium's SipHash-2-4, and not by this program.
+#![tactic(auto)]
+
 use libc::STDOUT_FILENO;
 
 fn wide(x: u8) -> u64 {

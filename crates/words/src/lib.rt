@@ -1,4 +1,6 @@
 // Little-endian words in byte slices.
+#![tactic(auto)]
+
 ghost use Rattle.std.specs.Prelude.{◌≡◌, ◌+◌, ◌<◌, ◌≤◌, length};
 ghost use Rattle.words.specs.Bytes.{from_le, to_le, part, put};
 

@@ -1,4 +1,6 @@
 // Writing a line.
+#![tactic(auto)]
+
 ghost use Rattle.std.specs.Prelude.{◌≡◌, true, suc, ◌<◌, length};
 ghost use Rattle.memory_map.specs.Map.{lines, page_of, place_of};
 ghost use Rattle.counter.specs.Counter.{with_minor};
