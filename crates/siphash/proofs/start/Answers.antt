@@ -2,12 +2,8 @@
 -- Assumes nothing.
 use Rattle.std.proofs.Common.{refl}
 use Rattle.siphash.specs.SipHash.{initial}
-use Rattle.siphash.proofs.start.Statement.{statement}
-use Rattle.siphash.proofs.start.Tie as tie
+use Rattle.siphash.proofs.start.Goals as goal
 
-returns : tie.Need-returns
+pub returns : goal.returns
 unfolding initial
 returns c = refl
-
-pub start_spec : {M : Type 1} → statement M
-start_spec = tie.close (tie.spec returns)

@@ -1,0 +1,12 @@
+-- `rising::put_rising` meets its contract. Assumes nothing.
+use mathlib.Core.Path.{ap, ◌∙◌}
+use Rattle.words.specs.Bytes.{bytes_of}
+use Rattle.rising.proofs.Laws.{rising-of}
+use Rattle.rising.proofs.put_rising.Goals as goal
+
+pub returns : goal.returns
+returns c =
+    c.put_merged.ensures
+    ∙ ap (bytes_of 8)
+    (rising-of c.args.a c.args.b c.args.c c.args.d c.smaller.ensures c.larger.ensures c.smaller-2.ensures
+    c.larger-2.ensures)
