@@ -5,7 +5,7 @@ use Rattle.siphash.proofs.sip_round.Goals as goal
 
 pub returns : goal.returns
 returns c =
-    round-steps c.args.t1
+    round-steps c.args.v
     c.wrapping_add_u64-v0.ensures
     c.wrapping_add_u64-v2.ensures
     c.rotate64.ensures
