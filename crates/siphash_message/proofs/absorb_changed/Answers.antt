@@ -27,7 +27,7 @@ loop-i-preserved c =
           let same : c.args.j ≡ c.loop-i.i = omega arith in
           w.w-is ∙ sym (get_or-set_same ws c.args.j c.args.x 0 (rw length-words (omega arith))) ∙ ap (λ (m : ℕ). get_or changed m 0) same
       | else-i-j w ↦
-          let read = w.load64-w.ensures ∙ ap (λ (m : ℕ). from_le (part c.args.s.now m 8)) place ∙ sym (get_d_words 8 c.args.n c.args.s.now c.loop-i.i (omega arith)) in
+          let read = c.load64-w.ensures ∙ ap (λ (m : ℕ). from_le (part c.args.s.now m 8)) place ∙ sym (get_d_words 8 c.args.n c.args.s.now c.loop-i.i (omega arith)) in
           w.w-is ∙ read ∙ sym (get_or-set_other ws c.args.j c.loop-i.i c.args.x 0 (λ e. omega arith))
     ] in
     let key = initial c.args.k0 c.args.k1 in

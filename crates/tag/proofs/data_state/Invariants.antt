@@ -1,0 +1,12 @@
+use mathlib.Core.Path.{◌≡◌}
+use Prim.Native.Nat.{◌-◌, ◌≤◌}
+use lib.ListN.{take}
+use Rattle.words.specs.Bytes.{words_of}
+use Rattle.siphash.specs.SipHash.{compress_all}
+use Rattle.tag.proofs.data_state.Given as goal
+
+abbrev pub invariant-loop-i : goal.invariant-loop-i
+invariant-loop-i l = (l.i ≤ 8) × (l.v ≡ compress_all (keyed l.keys) (take l.i (words_of 8 8 l.content)))
+
+abbrev pub decreases-loop-i : goal.decreases-loop-i
+decreases-loop-i l = 8 - l.i
