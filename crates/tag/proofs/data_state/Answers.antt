@@ -4,15 +4,13 @@ use mathlib.Core.List.{List, [], ◌∷◌}
 use Prim.Native.Nat.{ℕ, ◌-◌, zero-le}
 use native.Mathlib.Omega.{arith}
 use lib.Seq.{take_all}
-use Rattle.words.specs.Bytes.{from_le, part, words_of}
+use Rattle.words.specs.Bytes.{words_of}
 use Rattle.words.proofs.Words.{get_d_words, length-words}
 use Rattle.siphash.specs.SipHash.{initial, compress, compress_all}
 use Rattle.siphash.proofs.Messages.{compress-append, compress-next}
 use Rattle.tag.specs.States.{data_state}
+use Rattle.tag.proofs.data_state.Invariants.{keyed}
 use Rattle.tag.proofs.data_state.Goals as goal
-
-abbrev keyed : List ℕ → List ℕ
-keyed keys = initial (from_le (part keys 32 8)) (from_le (part keys 40 8))
 
 pub loop-i-init : goal.loop-i-init
 unfolding compress_all words_of
