@@ -13,7 +13,7 @@ use Rattle.cache.specs.Cache.{stray}
 use Rattle.cache.proofs.Owners.{place-empty, place-filled}
 use Rattle.shadow.proofs.Steps.{stray-turn, stray-end}
 use Rattle.shadow.proofs.first_stray.Goals as goal
-use Rattle.shadow.proofs.first_stray.Goals.{then-o-ne0, else-o-ne0}
+use Rattle.shadow.proofs.first_stray.Goals.{then-o-ne0+else-not-belongs, else-o-ne0}
 
 pub loop-s-init : goal.loop-s-init
 loop-s-init c = (zero-le, refl)
@@ -47,7 +47,7 @@ loop-s-preserved c =
       omega arith,
       turn true
           (elim c.if-o-ne0.branch [
-            then-o-ne0 w ↦ place-filled _ _ w.if-o-ne0.true ∙ sym w.belongs.ensures ∙ w.if-not-belongs.false
+            then-o-ne0+else-not-belongs w ↦ place-filled _ _ w.if-o-ne0.true ∙ sym w.belongs.ensures ∙ w.if-not-belongs.false
           | else-o-ne0 w ↦ place-empty _ _ w.if-o-ne0.false
           ]),
     )
