@@ -7,7 +7,7 @@ ghost use Rattle.commands.specs.Machine.{no_number, one_number, two_numbers, fou
 
 use decimal::Number;
 
-#[derive(Drop)]
+#[derive(Clone, Copy)]
 pub enum Command {
     Write { line: u64, byte: u8 },
     Read { line: u64 },
