@@ -1,6 +1,5 @@
 -- `rebuilding::rebuild_nodes` goes through the slots of the nodes. Assumes nothing.
 use mathlib.Core.Path.{◌≡◌, refl, sym, ap, ◌∙◌}
-use mathlib.Core.Logic.{⊎_elim}
 use Prim.Native.Nat.{ℕ, ◌-◌, ◌≤◌, ◌<◌}
 use native.Mathlib.Omega.{arith}
 use borrow.Author.Rules.{rules}
@@ -10,6 +9,7 @@ use Rattle.memory_map.proofs.Laws.{slots_small}
 use Rattle.forwarding.proofs.Blocks.{placed-node, filled}
 use Rattle.rebuilding.proofs.Nodes.{renewing-next, renewing-empty, renewing-all, nodes_from}
 use Rattle.rebuilding.proofs.rebuild_nodes.Goals as goal
+use Rattle.rebuilding.proofs.rebuild_nodes.Goals.{then-owner-ne0, else-owner-ne0}
 
 pub slots-n-requires : goal.slots-n-requires
 slots-n-requires c = (c.requires.1.0.deep, c.requires.1.0.flat)
@@ -42,12 +42,15 @@ pub loop-s-preserved : goal.loop-s-preserved
 loop-s-preserved c =
     let fits : c.slots-n.result ≤ length c.args.owners = let size : length c.args.owners ≡ 10 = search rules in
     omega (arith, slots_small c.slots-n.ensures c.requires.1.0.flat) in
-    ⊎_elim
-    (λ w. renewing-next c.args.h c.args.keys.now c.args.array.now c.args.owners c.slots-n.result fits c.loop-s.invariant c.loop-s-test.true
-    (sym (filled _ w.0.taken)) (w.5 ∙ w.2.ensures) (ap length w.5 ∙ w.2.kept.1.1.1.1.1.0 ∙ c.loop-s.invariant.full))
-    (λ w. renewing-empty c.args.h c.args.keys.now c.args.array.now c.args.owners c.slots-n.result fits c.loop-s.invariant c.loop-s-test.true
-    w.0.left w.1)
-    c.if-owner-ne0.branch
+    elim c.if-owner-ne0.branch [
+      then-owner-ne0 w ↦
+          renewing-next c.args.h c.args.keys.now c.args.array.now c.args.owners c.slots-n.result fits c.loop-s.invariant c.loop-s-test.true
+          (sym (filled _ w.if-owner-ne0.true)) (w.image-is ∙ w.put_node.ensures)
+          (ap length w.image-is ∙ w.put_node.auto.image ∙ c.loop-s.invariant.full)
+    | else-owner-ne0 w ↦
+          renewing-empty c.args.h c.args.keys.now c.args.array.now c.args.owners c.slots-n.result fits c.loop-s.invariant c.loop-s-test.true
+          w.if-owner-ne0.false w.image-is
+    ]
 
 pub returns : goal.returns
 returns c =
