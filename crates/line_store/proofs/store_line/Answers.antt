@@ -61,16 +61,15 @@ gather-n-requires c =
       wide = c.requires.keys_len.1.1.1;
       block-bytes = record { at = λ i. (c.type_inv.block i).fits };
     } in
-    let y = ready in (
-      c.requires.keys_len,
-      (
-        (y.sized.deep, (y.sized.flat, (y.sized.cache, (y.shaped, lent.inside)))),
-        (
-          y.control,
-          (c.requires.control_len.1.1.1.1, (batch-length y c.args.family c.args.keys.now lent c.args.major c.args.minor).1),
-        ),
-      ),
-    )
+    let y = ready in
+    record {
+      keys_len = c.requires.keys_len;
+      le_h = (y.sized.deep, (y.sized.flat, (y.sized.cache, (y.shaped, lent.inside))));
+      control_len = (
+        y.control,
+        (c.requires.control_len.1.1.1.1, (batch-length y c.args.family c.args.keys.now lent c.args.major c.args.minor).1),
+      );
+    }
 
 pub run-stores-requires : goal.run-stores-requires
 run-stores-requires c =
