@@ -1,0 +1,84 @@
+-- `recovery::recover` meets its contract. Assumes nothing.
+use mathlib.Core.Path.{◌≡◌, sym, ap, ◌∙◌, subst}
+use mathlib.Core.Logic.{⊎_elim}
+use Prim.Native.Nat.{ℕ, ◌≤◌}
+use native.Mathlib.Omega.{arith}
+use lib.ListN.{length}
+use Rattle.control.specs.Control.{depth}
+use Rattle.control.proofs.Laws.{valid-parts}
+use Rattle.journal.specs.Journal.{Media, pending_stores}
+use Rattle.node.specs.Sized.{Sized}
+use Rattle.calls.specs.Call.{Module, buffers}
+use Rattle.call_laws.proofs.Judged.{Opened, recovery-opened, head_of}
+use Rattle.call_laws.proofs.Kept.{Bytes, array-cells}
+use Rattle.call_laws.proofs.Rebuilt.{made-depth}
+use Rattle.recovery.proofs.Ends.{ends-refused, ends-cut, ends-media, wanted-none, wanted-some}
+use Rattle.recovery.proofs.recover.Goals as goal
+
+pub returns-then-number-ne0 : goal.returns-then-number-ne0
+returns-then-number-ne0 c =
+    let given : Module = buffers c.args.array.now c.args.control.now c.args.cache.now in
+    ends-refused c.args.keys.now c.args.allowance given _ c.opening-number.ensures c.if-number-ne0.true c.refuse.ensures
+
+pub count-n-requires : goal.count-n-requires
+count-n-requires c =
+    let given : Module = buffers c.args.array.now c.args.control.now c.args.cache.now in
+    let opened : Opened c.args.keys.now given = recovery-opened _ _ (sym c.opening-number.ensures ∙ c.if-number-ne0.false) in
+    opened.control_length
+
+pub finish-stores-requires : goal.finish-stores-requires
+finish-stores-requires c =
+    let given : Module = buffers c.args.array.now c.args.control.now c.args.cache.now in
+    let opened : Opened c.args.keys.now given = recovery-opened _ _ (sym c.opening-number.ensures ∙ c.if-number-ne0.false) in
+    let o = opened in (
+      o.control_length,
+      (
+        (head_of _ _ o).few,
+        rw (array-cells (depth c.args.control.now) (length c.args.array.now) o.fits.array) (valid-parts o.right).cells_in,
+      ),
+    )
+
+pub overflow_add-n : goal.overflow_add-n
+overflow_add-n c =
+    let given : Module = buffers c.args.array.now c.args.control.now c.args.cache.now in
+    let opened : Opened c.args.keys.now given = recovery-opened _ _ (sym c.opening-number.ensures ∙ c.if-number-ne0.false) in
+    omega (arith, c.count-n.ensures, (head_of _ _ opened).few)
+
+pub returns-then-stores-n : goal.returns-then-stores-n
+returns-then-stores-n c =
+    let given : Module = buffers c.args.array.now c.args.control.now c.args.cache.now in
+    let want = wanted-some c.args.control.now c.count-n.ensures c.if-n-ne0.true in
+    ends-cut c.args.keys.now c.args.allowance given (sym c.if-number-ne0.false ∙ c.opening-number.ensures)
+    c.finish-stores.ensures (omega (arith, want, c.if-stores-n.true))
+
+pub recover_media-requires : goal.recover_media-requires
+recover_media-requires c =
+    let given : Module = buffers c.args.array.now c.args.control.now c.args.cache.now in
+    let opened : Opened c.args.keys.now given = recovery-opened _ _ (sym c.opening-number.ensures ∙ c.if-number-ne0.false) in
+    let bytes : Bytes given = record {
+      array = record { at = λ i. (c.slice_known-2-1.given i).fits };
+      control = record { at = λ i. (c.slice_known-1.given i).fits };
+      cache = record { at = λ i. (c.slice_known-3-1.given i).fits };
+    } in
+    let same-depth : depth c.finish-stores.new.control ≡ depth c.args.control.now = ap (λ (m : Media). depth m.control) c.finish-stores.ensures.left
+    ∙ made-depth c.args.keys.now given bytes opened c.args.allowance in
+    let o = opened in
+    let head = head_of _ _ o in (
+      o.keys_length,
+      (
+        c.finish-stores.auto.control ∙ o.control_length,
+        subst (λ (h : ℕ). Sized h c.finish-stores.new.array c.args.cache.now) (sym same-depth)
+            (record { deep = head.deep; flat = head.flat; array = c.finish-stores.auto.array ∙ o.fits.array; cache = o.fits.cache }),
+      ),
+    )
+
+pub returns : goal.returns
+returns c =
+    let given : Module = buffers c.args.array.now c.args.control.now c.args.cache.now in
+    let all_made : length (pending_stores c.args.control.now) ≤ c.finish-stores.result = ⊎_elim
+    (λ w. omega (arith, w.1.left, wanted-some c.args.control.now c.count-n.ensures w.0.taken))
+    (λ w. omega (arith, wanted-none c.args.control.now c.count-n.ensures w.left))
+    c.if-n-ne0.branch in
+    c.recover_media.ensures
+    ∙ ends-media c.args.keys.now c.args.allowance given (sym c.if-number-ne0.false ∙ c.opening-number.ensures)
+    c.finish-stores.ensures all_made
