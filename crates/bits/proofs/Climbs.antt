@@ -28,6 +28,7 @@ climbs-length (up q l rest) p = omega (arith, climbs-length rest l)
 
 -- what stands among them
 pub climbs-mem : {hi lo j : ℕ} {js : List ℕ} → Climbs hi lo js → Memᴰ j js → (lo ≤ j) × (j < hi)
+climbs-mem {hi = hi} {j = j} (end {lo = lo}) x4 = elim x4 [ ]
 climbs-mem (up q l rest) (Memᴰ.head e) = (omega arith, omega arith)
 climbs-mem (up q l rest) (Memᴰ.tail m) = let r = climbs-mem rest m in (omega arith, r.1)
 
