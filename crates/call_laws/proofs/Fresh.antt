@@ -89,9 +89,9 @@ array-bytes keys h =
     below-append (replicate (72 * lines h) 0) _ (zeros-bytes (72 * lines h))
     (level-cells-bytes keys h (suc h) _ (zeros-bytes (72 * shadow_cells h)))
 
-pub control_length : (h f r : ℕ) → length (fresh_control h f r) ≡ control_length
+pub control-length : (h f r : ℕ) → length (fresh_control h f r) ≡ control_length
 unfolding fresh_control digits
-control_length h f r = refl
+control-length h f r = refl
 
 pub control-bytes : (h f r : ℕ) → h < 256 → Below 256 (fresh_control h f r)
 unfolding fresh_control
@@ -110,7 +110,7 @@ unfolding formatted
 formatted-kept keys h f m ok =
     record {
       array = array-length keys h ∙ sym ok.fits.array;
-      control = control_length h f (fresh_root keys (λ p. 0) (λ n. 0) h) ∙ sym ok.control_length;
+      control = control-length h f (fresh_root keys (λ p. 0) (λ n. 0) h) ∙ sym ok.control_length;
       cache = length-empty h ∙ sym ok.fits.cache;
       bytes = record {
         array = array-bytes keys h;

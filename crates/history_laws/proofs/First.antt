@@ -15,7 +15,7 @@ use Rattle.cache.proofs.Laws.{length-empty, below-empty, owner-empty, formed-emp
 use Rattle.journal.specs.Journal.{media}
 use Rattle.calls.specs.Format.{fresh_array}
 use Rattle.history_laws.specs.History.{empty_book}
-use Rattle.call_laws.proofs.Fresh.{array-length, array-bytes, control_length, control-bytes}
+use Rattle.call_laws.proofs.Fresh.{array-length, array-bytes, control-length, control-bytes}
 use Rattle.history_laws.proofs.Setting.{Setting, tree_root, closed, is_done, Says}
 use Rattle.history_laws.proofs.Tree.{tree-tag}
 use Rattle.history_laws.proofs.Formatted.{no_writes, formatted-durable, none-listed, no-data}
@@ -74,7 +74,7 @@ module _ (S : Setting) where
       record {
         formed = record {
           array-length = array-length keys h;
-          control_length = control_length h S.family top;
+          control_length = control-length h S.family top;
           array-bytes = array-bytes keys h;
           control-bytes = control-bytes h S.family top (omega arith);
         };

@@ -115,7 +115,7 @@ store_kept clear f w = put-kept 15 (0 ∷ []) f (omega arith) (below-cons (lit< 
 pub stores-kept : {size : ℕ} {m : Media} {xs : List Store} → Formed size m → Each (Within (size / 72)) xs → Formed size (store_all m xs)
 unfolding store_all
 stores-kept f none = f
-stores-kept f (more {x = x} w ws) = stores-kept (store_kept x f w) ws
+stores-kept {m = m} f (more {x = x} w ws) = stores-kept {m = store m x} (store_kept x f w) ws
 
 -- also where they are cut
 pub made_kept : {size : ℕ} {m : Media} (a : ℕ) {xs : List Store} → Formed size m → Each (Within (size / 72)) xs
@@ -144,7 +144,7 @@ pub stores-front : {size : ℕ} {m : Media} {xs : List Store} → Formed size m 
     → part (store_all m xs).control 0 7 ≡ part m.control 0 7
 unfolding store_all
 stores-front f none = refl
-stores-front f (more {x = x} w ws) = stores-front (store_kept x f w) ws ∙ store-front x f w
+stores-front {m = m} f (more {x = x} w ws) = stores-front {m = store m x} (store_kept x f w) ws ∙ store-front x f w
 
 -- ---- cells that they do not name
 
@@ -203,4 +203,4 @@ pub stores_apart : {size : ℕ} (n : ℕ) {m : Media} {xs : List Store} → Form
     → part (store_all m xs).array (72 * n) 72 ≡ part m.array (72 * n) 72
 unfolding store_all
 stores_apart n f none none = refl
-stores_apart n f (more {x = x} w ws) (more a bs) = stores_apart n (store_kept x f w) ws bs ∙ store_apart n x f w a
+stores_apart n {m = m} f (more {x = x} w ws) (more a bs) = stores_apart n {m = store m x} (store_kept x f w) ws bs ∙ store_apart n x f w a
