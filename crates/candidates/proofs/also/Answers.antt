@@ -7,12 +7,12 @@ use Rattle.candidates.proofs.also.Goals as goal
 
 pub returns-in-None : goal.returns-in-None
 unfolding also
-returns-in-None c = sym (ap (λ (x : Choice). also x c.args.v true) c.enum_told-1.given.1)
+returns-in-None c = sym (ap (λ (x : Choice). also x c.args.v true) c.in-None.is)
 
 pub returns-in-Only : goal.returns-in-Only
 unfolding also
-returns-in-Only c = sym (ap (λ (x : Choice). also x c.args.v true) c.enum_told-in-Only-1.given.1)
+returns-in-Only c = sym (ap (λ (x : Choice). also x c.args.v true) c.in-Only.is)
 
 pub returns-in-Several : goal.returns-in-Several
 unfolding also
-returns-in-Several c = sym (ap (λ (x : Choice). also x c.args.v true) c.enum_told-in-Several-1.given.1)
+returns-in-Several c = sym (ap (λ (x : Choice). also x c.args.v true) c.in-Several.is)

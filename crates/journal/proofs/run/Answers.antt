@@ -11,12 +11,12 @@ use Rattle.journal.proofs.run.Goals as goal
 pub returns-then-allowance-n : goal.returns-then-allowance-n
 returns-then-allowance-n c =
     let ran = run-part c.args.array.now c.args.control.now c.args.n c.args.root c.args.allowance c.if-allowance-n.true in
-    (ran.left, ran.number)
+    record { control_after = ran.left; value = ran.number }
 
 pub finish-requires : goal.finish-requires
 finish-requires c =
     let committed : Committed c.args.array.now c.args.control.now c.args.n c.args.root c.args.allowance c.commit.new.control = run-commit c.args.array.now c.args.control.now c.args.n c.args.root c.args.allowance c.requires.1.0.0 c.requires.1.0.1 c.requires.0
-    (record { at = λ i. (c.type_inv.control i).fits }) c.if-allowance-n.false c.ranges.root.fits
+    (record { at = λ i. (c.slice_known-2-1.given i).fits }) c.if-allowance-n.false c.ranges.root.fits
     c.commit.new.control c.commit.ensures in (
       c.commit.auto.control ∙ c.requires.0,
       (
@@ -29,16 +29,16 @@ finish-requires c =
 pub overflow_add-result-2 : goal.overflow_add-result-2
 overflow_add-result-2 c =
     let committed : Committed c.args.array.now c.args.control.now c.args.n c.args.root c.args.allowance c.commit.new.control = run-commit c.args.array.now c.args.control.now c.args.n c.args.root c.args.allowance c.requires.1.0.0 c.requires.1.0.1 c.requires.0
-    (record { at = λ i. (c.type_inv.control i).fits }) c.if-allowance-n.false c.ranges.root.fits
+    (record { at = λ i. (c.slice_known-2-1.given i).fits }) c.if-allowance-n.false c.ranges.root.fits
     c.commit.new.control c.commit.ensures in
     omega (arith, c.requires.1.0.1, committed.few _ _ _ c.finish.result c.finish.ensures)
 
 pub returns : goal.returns
 returns c =
     let committed : Committed c.args.array.now c.args.control.now c.args.n c.args.root c.args.allowance c.commit.new.control = run-commit c.args.array.now c.args.control.now c.args.n c.args.root c.args.allowance c.requires.1.0.0 c.requires.1.0.1 c.requires.0
-    (record { at = λ i. (c.type_inv.control i).fits }) c.if-allowance-n.false c.ranges.root.fits
+    (record { at = λ i. (c.slice_known-2-1.given i).fits }) c.if-allowance-n.false c.ranges.root.fits
     c.commit.new.control c.commit.ensures in
     let ran =
     committed.rest (media c.finish.new.array c.finish.new.control)
     c.finish.result c.finish.ensures in
-    (ran.left, ran.number)
+    record { control_after = ran.left; value = ran.number }

@@ -16,7 +16,7 @@ returns-then-allowance-cells c =
     let ran =
     ran-short c.args.array.now c.args.control.now c.args.n c.args.root (turn_bytes c.args.count c.args.page c.args.mask) c.args.allowance c.requires.0
     c.requires.1.0.1 _ _ short (run-part c.args.array.now c.args.control.now c.args.n c.args.root c.args.allowance short) in
-    (ran.left, ran.number)
+    record { control_after = ran.left; value = ran.number }
 
 pub run-requires : goal.run-requires
 run-requires c = (
@@ -38,4 +38,4 @@ returns c =
     c.requires.1.0.1 after c.run.result c.if-allowance-cells.false
     (subst (λ (k : List ℕ). Ran c.args.array.now k c.args.n c.args.root c.args.allowance after c.run.result) c.put_turn.ensures
     (record { left = c.run.ensures.control_after; number = c.run.ensures.value })) in
-    (ran.left, ran.number)
+    record { control_after = ran.left; value = ran.number }

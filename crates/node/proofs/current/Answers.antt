@@ -35,5 +35,5 @@ in_cell-requires c = rw c.node_cell.ensures (cell_room _ c.args.array.now _ _ c.
 
 pub returns : goal.returns
 returns c =
-    c.in_Cell.ensures ∙ ap (cell_content c.args.array.now) c.node_cell.ensures
+    c.in_cell.ensures ∙ ap (cell_content c.args.array.now) c.node_cell.ensures
     ∙ sym (current-missing c.args.h c.args.array.now c.args.cache.now c.args.l c.args.i (sym c.holds.ensures ∙ c.if-holds.false))

@@ -17,7 +17,7 @@ use Rattle.shadow.proofs.bad_slot.Goals as goal
 pub returns-in-At : goal.returns-in-At
 returns-in-At c =
     bad-stray c.args.h _ (take (slots c.args.h) c.args.owners)
-    (sym c.first_stray-found.ensures ∙ c.found-1.given.1)
+    (sym c.first_stray-found.ensures ∙ c.in-At.is)
 
 pub offset_bounds-owners-top : goal.offset_bounds-owners-top
 unfolding slots
@@ -33,8 +33,7 @@ bounds-owners-top c =
 
 pub returns-then-owners-top-ne0 : goal.returns-then-owners-top-ne0
 returns-then-owners-top-ne0 c =
-    let end : (b : Bool) → (any_owner (take (slots c.args.h) c.args.owners) && eqb (get_or c.args.owners c.slot_of-top.result 0) 0) ≡ b → cond b (At c.slot_of-top.result) Nothing ≡ bad_slot c.args.h (take (slots c.args.h) c.args.owners) = λ b e. bad-top c.args.h c.slot_of-top.result c.args.owners b c.slot_of-top.ensures (sym c.first_stray-found.ensures ∙ c.enum_told-1.given.1) e in
-    let any : any_owner (take (slots c.args.h) c.args.owners) ≡ c.any_owner.result = ap (λ (n : ℕ). any_owner (take n c.args.owners)) (sym c.slots.ensures) ∙ sym c.any_owner.ensures in
+    let end : (b : Bool) → (any_owner (take (slots c.args.h) c.args.owners) && eqb (get_or c.args.owners c.slot_of-top.result 0) 0) ≡ b → cond b (At c.slot_of-top.result) Nothing ≡ bad_slot c.args.h (take (slots c.args.h) c.args.owners) = λ b e. bad-top c.args.h c.slot_of-top.result c.args.owners b c.slot_of-top.ensures (sym c.first_stray-found.ensures ∙ c.in_default.is) e in
     let any = any_owner (take (slots c.args.h) c.args.owners) in
     end false (ap (λ (b : Bool). any && b) (ne_eqb _ _ c.if-owners-top-ne0.true) ∙ and-false any)
 
@@ -44,14 +43,14 @@ any_owner-requires c = omega arith
 
 pub returns-then-any_owner : goal.returns-then-any_owner
 returns-then-any_owner c =
-    let end : (b : Bool) → (any_owner (take (slots c.args.h) c.args.owners) && eqb (get_or c.args.owners c.slot_of-top.result 0) 0) ≡ b → cond b (At c.slot_of-top.result) Nothing ≡ bad_slot c.args.h (take (slots c.args.h) c.args.owners) = λ b e. bad-top c.args.h c.slot_of-top.result c.args.owners b c.slot_of-top.ensures (sym c.first_stray-found.ensures ∙ c.enum_told-1.given.1) e in
+    let end : (b : Bool) → (any_owner (take (slots c.args.h) c.args.owners) && eqb (get_or c.args.owners c.slot_of-top.result 0) 0) ≡ b → cond b (At c.slot_of-top.result) Nothing ≡ bad_slot c.args.h (take (slots c.args.h) c.args.owners) = λ b e. bad-top c.args.h c.slot_of-top.result c.args.owners b c.slot_of-top.ensures (sym c.first_stray-found.ensures ∙ c.in_default.is) e in
     let any : any_owner (take (slots c.args.h) c.args.owners) ≡ c.any_owner.result = ap (λ (n : ℕ). any_owner (take n c.args.owners)) (sym c.slots.ensures) ∙ sym c.any_owner.ensures in
     end true
     (ap₂ ◌&&◌ (any ∙ c.if-any_owner.true) (eq-eqb _ _ c.if-owners-top-ne0.false))
 
 pub returns : goal.returns
 returns c =
-    let end : (b : Bool) → (any_owner (take (slots c.args.h) c.args.owners) && eqb (get_or c.args.owners c.slot_of-top.result 0) 0) ≡ b → cond b (At c.slot_of-top.result) Nothing ≡ bad_slot c.args.h (take (slots c.args.h) c.args.owners) = λ b e. bad-top c.args.h c.slot_of-top.result c.args.owners b c.slot_of-top.ensures (sym c.first_stray-found.ensures ∙ c.enum_told-1.given.1) e in
+    let end : (b : Bool) → (any_owner (take (slots c.args.h) c.args.owners) && eqb (get_or c.args.owners c.slot_of-top.result 0) 0) ≡ b → cond b (At c.slot_of-top.result) Nothing ≡ bad_slot c.args.h (take (slots c.args.h) c.args.owners) = λ b e. bad-top c.args.h c.slot_of-top.result c.args.owners b c.slot_of-top.ensures (sym c.first_stray-found.ensures ∙ c.in_default.is) e in
     let any : any_owner (take (slots c.args.h) c.args.owners) ≡ c.any_owner.result = ap (λ (n : ℕ). any_owner (take n c.args.owners)) (sym c.slots.ensures) ∙ sym c.any_owner.ensures in
     let o = get_or c.args.owners c.slot_of-top.result 0 in
     end false (ap (λ (b : Bool). b && eqb o 0) (any ∙ c.if-any_owner.false))

@@ -1,7 +1,6 @@
 -- `shadow::first_stray` meets its contract. Assumes nothing.
 use borrow.Author.Rules.{rules}
 use mathlib.Core.Path.{◌≡◌, refl, sym, ◌∙◌}
-use mathlib.Core.Logic.{⊎_elim}
 use mathlib.Core.Bool.{Bool, true, false, ◌||◌, cond}
 use Prim.Native.Nat.{◌+◌, ◌-◌, zero-le}
 use native.Mathlib.Omega.{arith}
@@ -14,6 +13,7 @@ use Rattle.cache.specs.Cache.{stray}
 use Rattle.cache.proofs.Owners.{place-empty, place-filled}
 use Rattle.shadow.proofs.Steps.{stray-turn, stray-end}
 use Rattle.shadow.proofs.first_stray.Goals as goal
+use Rattle.shadow.proofs.first_stray.Goals.{then-o-ne0+else-not-belongs, else-o-ne0}
 
 pub loop-s-init : goal.loop-s-init
 loop-s-init c = (zero-le, refl)
@@ -46,8 +46,10 @@ loop-s-preserved c =
     c.loop-s.invariant.1 ∙ stray-turn c.args.h c.args.owners c.slots-n.result c.loop-s.s b c.loop-s-test.true (omega arith) e in (
       omega arith,
       turn true
-          (⊎_elim (λ w. place-filled _ _ w.0.taken ∙ sym w.1.ensures ∙ w.2.left) (λ w. place-empty _ _ w.left)
-          c.if-o-ne0.branch),
+          (elim c.if-o-ne0.branch [
+            then-o-ne0+else-not-belongs w ↦ place-filled _ _ w.if-o-ne0.true ∙ sym w.belongs.ensures ∙ w.if-not-belongs.false
+          | else-o-ne0 w ↦ place-empty _ _ w.if-o-ne0.false
+          ]),
     )
 
 pub returns : goal.returns

@@ -46,4 +46,4 @@ loop-s-preserved c = (
 pub returns : goal.returns
 returns c =
     let all : c.loop-s.s ≡ c.args.n = omega arith in
-    rw all c c.loop-s.invariant.1.1.1
+    rw all at c.loop-s.invariant.1.1.1
