@@ -1,6 +1,5 @@
 -- `forwarding::rebuild_counters` goes through the slots, and through the lines of each. Assumes nothing.
 use mathlib.Core.Path.{◌≡◌, refl, sym, ap, ap₂, ◌∙◌, subst}
-use mathlib.Core.Logic.{⊎_elim}
 use mathlib.Core.List.{List}
 use Prim.Native.Nat.{ℕ, ◌+◌, ◌-◌, ◌≤◌, ◌<◌, zero-le}
 use native.Mathlib.Omega.{arith}
@@ -23,6 +22,7 @@ use Rattle.forwarding.proofs.Forward.{forwarding-none, forwarding-next, forwarde
 use Rattle.forwarding.proofs.Blocks.{rebuilding-empty, rebuilding-fails, rebuilding-next, rebuilding-same}
 use Rattle.forwarding.proofs.Blocks.{blocks_end, placed-node, page-lines}
 use Rattle.forwarding.proofs.rebuild_counters.Goals as goal
+use Rattle.forwarding.proofs.rebuild_counters.Goals.{then-owner-ne0+else-loop-j-test, else-owner-ne0, else-slots-test, then-slots-test+then-owner-ne0+then-loop-j-test+then-new-ge128}
 
 pub family-family-requires : goal.family-family-requires
 family-family-requires c = c.requires.1.0
@@ -181,34 +181,43 @@ pub slots-preserved : goal.slots-preserved
 slots-preserved c =
     let lent : Media = media c.args.array.now c.args.control.now in
     let ten : length c.args.owners ≡ 10 = search rules in
-    ⊎_elim
-    (λ w. rebuilding-same c.args.h c.args.keys.now lent c.args.owners
-    (rebuilding-next c.args.h c.args.keys.now lent c.args.owners ten c.slots.invariant c.slots-test.true w.0.taken w.1.ensures w.2.ensures
-    w.5.ensures w.3.ensures c.family-family.ensures w.8.inv.1.1 w.7.ensures w.8.inv.0 w.9.left
-    (omega (arith, w.8.inv.0, w.8.inv.1.0)) w.12.ensures w.12.kept.0) w.15 w.16)
-    (λ w. rebuilding-same c.args.h c.args.keys.now lent c.args.owners
-    (rebuilding-empty c.args.h c.args.keys.now lent c.args.owners ten c.slots.invariant c.slots-test.true w.0.left) w.1 w.2)
-    c.if-owner-ne0.branch
+    elim c.if-owner-ne0.branch [
+      | then-owner-ne0+else-loop-j-test w ↦
+          rebuilding-same c.args.h c.args.keys.now lent c.args.owners
+          (rebuilding-next c.args.h c.args.keys.now lent c.args.owners ten c.slots.invariant c.slots-test.true w.if-owner-ne0.true
+          w.node_cell.ensures w.in_cell-block.ensures w.unpack.ensures w.major-major.ensures c.family-family.ensures
+          w.loop-j.invariant.1.1 w.lines_read-n.ensures w.loop-j.invariant.0 w.loop-j-test.false
+          (omega (arith, w.loop-j.invariant.0, w.loop-j.invariant.1.0)) w.put_block.ensures w.put_block.auto.image)
+          w.image-is w.sum-is
+      | else-owner-ne0 w ↦
+          rebuilding-same c.args.h c.args.keys.now lent c.args.owners
+          (rebuilding-empty c.args.h c.args.keys.now lent c.args.owners ten c.slots.invariant c.slots-test.true w.if-owner-ne0.false)
+          w.image-is w.sum-is
+    ]
 
 pub returns-then-s-lt4 : goal.returns-then-s-lt4
 unfolding counted
 returns-then-s-lt4 c =
     let lent : Media = media c.args.array.now c.args.control.now in
     let ten : length c.args.owners ≡ 10 = search rules in
-    ⊎_elim (λ w. absurd (omega (arith, w.0.left)))
-    (λ w. ap₂ {C = Forwarded} failed w.14 w.15
-    ∙ sym (rebuilding-fails c.args.h c.args.keys.now lent c.args.owners ten c.slots.invariant w.0.taken w.1.taken
-    w.2.ensures w.3.ensures w.6.ensures w.4.ensures c.family-family.ensures w.9.inv.1.1 w.8.ensures
-    w.10.taken w.11.ensures w.12.taken))
-    c.slots-test.branch
+    elim c.slots-test.branch [
+      | else-slots-test w ↦ absurd (omega (arith, w.slots-test.false))
+      | then-slots-test+then-owner-ne0+then-loop-j-test+then-new-ge128 w ↦
+          ap₂ {C = Forwarded} failed w.number-is w.line-is
+          ∙ sym (rebuilding-fails c.args.h c.args.keys.now lent c.args.owners ten c.slots.invariant w.slots-test.true
+          w.if-owner-ne0.true w.node_cell.ensures w.in_cell-block.ensures w.unpack.ensures w.major-major.ensures
+          c.family-family.ensures w.loop-j.invariant.1.1 w.lines_read-n.ensures
+          w.loop-j-test.true w.step-new.ensures w.if-new-ge128.true)
+    ]
 
 pub returns : goal.returns
 unfolding counted
 returns c =
     let lent : Media = media c.args.array.now c.args.control.now in
-    ⊎_elim
-    (λ w. ap (λ (n : ℕ). so_far c.slots.image n) w.1
-    ∙ sym (c.slots.invariant.rest
-    ∙ blocks_end c.args.h c.args.keys.now lent c.args.owners c.slots.s w.0.left c.slots.image c.slots.sum))
-    (λ w. absurd (omega (arith, w.0.taken)))
-    c.slots-test.branch
+    elim c.slots-test.branch [
+      | else-slots-test w ↦
+          ap (λ (n : ℕ). so_far c.slots.image n) w.sum-is
+          ∙ sym (c.slots.invariant.rest
+          ∙ blocks_end c.args.h c.args.keys.now lent c.args.owners c.slots.s w.slots-test.false c.slots.image c.slots.sum)
+      | then-slots-test+then-owner-ne0+then-loop-j-test+then-new-ge128 w ↦ absurd (omega (arith, w.slots-test.true))
+    ]
