@@ -7,7 +7,7 @@ ghost use Rattle.commands.specs.Machine.{no_number, one_number, two_numbers, fou
 
 use decimal::Number;
 
-#[derive(Drop)]
+#[derive(Clone, Copy)]
 pub enum Command {
     Write { line: u64, byte: u8 },
     Read { line: u64 },
@@ -17,7 +17,7 @@ pub enum Command {
 }
 
 // What is kept of a line so far: nothing, its letter, the number of its first and of its second part, or that it is no command.
-#[derive(Drop)]
+#[derive(Clone, Copy)]
 pub enum Parser {
     Start,
     Letter {
