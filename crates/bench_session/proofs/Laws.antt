@@ -23,13 +23,11 @@ use Rattle.bench_session.specs.Session.{ran_to, ran, settled, unlimited, allowan
 use Rattle.bench_session.specs.Session.{State, state_of, line_ended, byte_taken, bytes_taken, has_line, input_ended, started, Took, Served}
 
 -- what is not cut keeps the cache
-pub settled-else : (r : Answer) (c : List ℕ) → OneOf (0 ∷ 1 ∷ 3 ∷ []) (tag_of the_type r) → c ≡ settled r c
+pub settled-else : (r : Answer) (c : List ℕ) → ((k : ℕ) → r ≡ Cut k → ⊥) → c ≡ settled r c
 unfolding settled
 settled-else (Done k t) c h = refl
 settled-else (Blank k) c h = refl
-settled-else (Cut k) c (inl z) = absurd (omega arith)
-settled-else (Cut k) c (inr (inl z)) = absurd (omega arith)
-settled-else (Cut k) c (inr (inr z)) = absurd (omega arith)
+settled-else (Cut k) c h = absurd (h k refl)
 settled-else (Refused n k a b) c h = refl
 
 module _ (keys : List ℕ) (command : Command) (n : ℕ) (m : Module) {a k c : List ℕ} where

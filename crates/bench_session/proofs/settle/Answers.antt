@@ -14,4 +14,4 @@ returns-in-Cut c =
     ∙ ap (λ (z : Answer). settled z c.args.cache.now) (sym c.in-Cut.is)
 
 pub returns-in_default : goal.returns-in_default
-returns-in_default c = settled-else c.args.answer c.args.cache.now c.in_default.keys2
+returns-in_default c = settled-else c.args.answer c.args.cache.now c.in_default.not-Cut

@@ -10,7 +10,6 @@ use Rattle.call_laws.specs.Line.{block_cells}
 use Rattle.line_batch.proofs.Laws.{cells-length, gathered}
 use Rattle.line_batch.proofs.gather.Goals as goal
 
-? : 
 record Few (h : ℕ) (x y : ℕ) (p : ℕ) (line : ℕ) : Type 0 where
   path : x ≤ 7
   both : x + y ≤ 7
@@ -30,14 +29,17 @@ put_path-i-requires c =
       page = page-inside c.args.h c.args.line c.requires.le_h.1.1.1.1;
       word = omega (arith, c.requires.le_h.1.1.1.1, lines-small {h = c.args.h} refl c.requires.le_h.1.0);
     }) in
-    record { le_h = (c.requires.le_h.0, (c.requires.le_h.1.0, (c.requires.le_h.1.1.0, (c.requires.le_h.1.1.1.0, few.page)))); control_len = (
+    record {
+      le_h = (c.requires.le_h.0, (c.requires.le_h.1.0, (c.requires.le_h.1.1.0, (c.requires.le_h.1.1.1.0, few.page))));
+      control_len = (
         c.requires.control_len.0,
         (
           omega (arith, few.path),
           c.requires.control_len.1.0
               ∙ ap (λ (p : ℕ). missing c.args.cache.now p (suc c.args.h)) (sym c.page_of-p.ensures),
         ),
-      ) }
+      );
+    }
 
 pub put_block-held-requires : goal.put_block-held-requires
 put_block-held-requires c =
@@ -51,8 +53,7 @@ put_block-held-requires c =
       both = omega (arith, all, c.requires.control_len.1.1);
       page = page-inside c.args.h c.args.line c.requires.le_h.1.1.1.1;
       word = omega (arith, c.requires.le_h.1.1.1.1, lines-small {h = c.args.h} refl c.requires.le_h.1.0);
-    }) in
-    (
+    }) in (
       c.requires.le_h.0,
       (
         c.requires.le_h.1.0,
@@ -82,8 +83,7 @@ put_data-requires c =
       both = omega (arith, all, c.requires.control_len.1.1);
       page = page-inside c.args.h c.args.line c.requires.le_h.1.1.1.1;
       word = omega (arith, c.requires.le_h.1.1.1.1, lines-small {h = c.args.h} refl c.requires.le_h.1.0);
-    }) in
-    (
+    }) in (
       c.requires.keys_len.0,
       (
         few.word,
