@@ -72,8 +72,8 @@ returns-in_default-ended c =
     let loads : (c.in-Loaded.missing ≡ missing c.args.cache.now (page_of c.args.line) (suc c.args.h)) × Found c.args.h c.args.keys.now c.args.array.now c.args.control.now c.args.cache.now c.args.line c.find_line-found.result = line-found ready c.requires.1.1.0 c.find_line-found.ensures c.in-Loaded.is in
     let passes : (c.find_line-found.result.minor ≡ 0) ⊎ (side_is (family c.args.control.now) c.args.keys.now c.args.array.now c.args.line c.find_line-found.result ≡ true) = let found = loads.1 in
     elim c.if-found-ne0.branch [
-      then-found-ne0+else-not-side_ok w ↦ inr (side-told found w.family-family.ensures w.side_ok.ensures w.if-not-side_ok.false)
-    | else-found-ne0 w ↦ inl w.if-found-ne0.false
+      | then-found-ne0+else-not-side_ok w ↦ inr (side-told found w.family-family.ensures w.side_ok.ensures w.if-not-side_ok.false)
+      | else-found-ne0 w ↦ inl w.if-found-ne0.false
     ] in
     let settled_on : ended c.settle-ended.result c.settle-ended.new.array c.settle-ended.new.control c.settle-ended.new.cache ≡ storing c.args.allowance (buffers c.args.array.now c.args.control.now c.args.cache.now) (path_stores c.args.h c.args.cache.now (page_of c.args.line) (root c.args.control.now)) (Done (length (path_stores c.args.h c.args.cache.now (page_of c.args.line) (root c.args.control.now))) 0) (with_path c.args.h c.args.array.now (page_of c.args.line) (suc c.args.h) c.args.cache.now) = c.settle-ended.ensures
     ∙ ap (λ (p : ℕ). storing c.args.allowance (buffers c.args.array.now c.args.control.now c.args.cache.now)
@@ -109,8 +109,8 @@ returns c =
     let loads : (c.in-Loaded.missing ≡ missing c.args.cache.now (page_of c.args.line) (suc c.args.h)) × Found c.args.h c.args.keys.now c.args.array.now c.args.control.now c.args.cache.now c.args.line c.find_line-found.result = line-found ready c.requires.1.1.0 c.find_line-found.ensures c.in-Loaded.is in
     let passes : (c.find_line-found.result.minor ≡ 0) ⊎ (side_is (family c.args.control.now) c.args.keys.now c.args.array.now c.args.line c.find_line-found.result ≡ true) = let found = loads.1 in
     elim c.if-found-ne0.branch [
-      then-found-ne0+else-not-side_ok w ↦ inr (side-told found w.family-family.ensures w.side_ok.ensures w.if-not-side_ok.false)
-    | else-found-ne0 w ↦ inl w.if-found-ne0.false
+      | then-found-ne0+else-not-side_ok w ↦ inr (side-told found w.family-family.ensures w.side_ok.ensures w.if-not-side_ok.false)
+      | else-found-ne0 w ↦ inl w.if-found-ne0.false
     ] in
     let settled_on : ended c.settle-ended.result c.settle-ended.new.array c.settle-ended.new.control c.settle-ended.new.cache ≡ storing c.args.allowance (buffers c.args.array.now c.args.control.now c.args.cache.now) (path_stores c.args.h c.args.cache.now (page_of c.args.line) (root c.args.control.now)) (Done (length (path_stores c.args.h c.args.cache.now (page_of c.args.line) (root c.args.control.now))) 0) (with_path c.args.h c.args.array.now (page_of c.args.line) (suc c.args.h) c.args.cache.now) = c.settle-ended.ensures
     ∙ ap (λ (p : ℕ). storing c.args.allowance (buffers c.args.array.now c.args.control.now c.args.cache.now)

@@ -77,8 +77,8 @@ pub returns : goal.returns
 returns c =
     let given : Module = buffers c.args.array.now c.args.control.now c.args.cache.now in
     let all_made : length (pending_stores c.args.control.now) ≤ c.finish-stores.result = elim c.if-n-ne0.branch [
-      then-n-ne0+else-stores-n w ↦ omega (arith, w.if-stores-n.false, wanted-some c.args.control.now c.count-n.ensures w.if-n-ne0.true)
-    | else-n-ne0 w ↦ omega (arith, wanted-none c.args.control.now c.count-n.ensures w.if-n-ne0.false)
+      | then-n-ne0+else-stores-n w ↦ omega (arith, w.if-stores-n.false, wanted-some c.args.control.now c.count-n.ensures w.if-n-ne0.true)
+      | else-n-ne0 w ↦ omega (arith, wanted-none c.args.control.now c.count-n.ensures w.if-n-ne0.false)
     ] in
     c.recover_media.ensures
     ∙ ends-media c.args.keys.now c.args.allowance given (sym c.if-number-ne0.false ∙ c.opening-number.ensures)
