@@ -1,4 +1,5 @@
-"""Runs the bench program, target/bin/bench_program, and holds what it prints to the paper and to the reference model."""
+"""Runs the bench program, crates/bench_program/out/bench_program, and holds what it prints to the paper and to the
+reference model."""
 
 import os
 import random
@@ -8,7 +9,7 @@ import sys
 from model import bench
 
 TOP = os.path.dirname(os.path.dirname(os.path.abspath(__file__)))
-PROGRAM = os.path.join(TOP, "target", "bin", "bench_program")
+PROGRAM = os.path.join(TOP, "crates", "bench_program", "out", "bench_program")
 LISTING = ("w 0 17,w 0 18,r 0,k 2,w 0 19,p,r 0,k 4,w 0 20,p,r 0,k 1,"
            "w 0 99,p,r 0,r 64")
 PRINTED = """w 0 done 9
@@ -174,7 +175,7 @@ def test_random():
 
 def main():
     if not os.path.exists(PROGRAM):
-        print("target/bin/bench_program is missing: rt check bench_program builds it")
+        print("crates/bench_program/out/bench_program is missing: tools/run builds it")
         print("bench program: 0 passed, 1 failed")
         return 1
     for test in (test_listing, test_ends, test_unknown, test_numbers, test_allowance, test_refusals, test_long, test_pieces, test_random):

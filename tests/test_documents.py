@@ -57,7 +57,7 @@ def definitions():
         if file not in lines and os.path.isfile(os.path.join(TOP, path)):
             text = text_of(path)
             lines[file] = sum(1 for line in map(str.strip, text.split("\n")) if line and not line.startswith(("--", "use ")))
-            left += re.findall(r"^use Rattle·(\w+)(?:·specs)?\.specs\.(\w+)", text, re.M)
+            left += re.findall(r"^use Rattle\.(\w+)\.specs\.(\w+)", text, re.M)
     return sum(lines.values()), len(lines)
 
 

@@ -68,20 +68,20 @@ def before_eviction():
 
 
 def theorem(name, left, right, opened):
-    return "\n%s :\n    %s\n    ≡ %s\nunfolding %s\n%s = refl\n" % (name, left, right, " ".join(["run sparse upTo", opened]).strip(), name)
+    return "\n%s :\n    %s\n    ≡ %s\nunfolding %s\n%s = refl\n" % (name, left, right, " ".join(["run sparse up_to", opened]).strip(), name)
 
 
 def written(start):
     """A write with an eviction and a stop-loss store."""
     answer, after = model.write_call(KEYS, 256, bytes([5]) * 64, 19, start)
     assert answer == model.Answer("done", 0, 11, 0, 0)
-    return theorem("written", "seen 256 (write (upTo 48 0) 256 (replicate 64 5) 19 start)",
+    return theorem("written", "seen 256 (write (up_to 48 0) 256 (replicate 64 5) 19 start)",
                    "record { answer = Done 11 0; cache = %s; cell = %s }" % (
                        literal(after.cache), literal(after.array[72 * 256:72 * 257])), "seen start")
 
 
 def rebuilding(array, control):
-    return "rebuildBlocks 1 (upTo 48 0) (media (%s) (%s))" % (array, control)
+    return "rebuild_blocks 1 (up_to 48 0) (media %s %s)" % (array, control)
 
 
 def rebuilt(start):
@@ -90,9 +90,9 @@ def rebuilt(start):
     assert answer == model.Answer("done", 0, 0, 3, 0)
     owners = [slot.owner for slot in model.slots_of_cache(module.cache)]
     blocks = literal(module.cache[:4 * 73] + bytes(len(module.cache) - 4 * 73))
-    return theorem("blocks", "%s 0 (%s) (emptyCache 1) 0" % (rebuilding("start .array", "start .control"), octets(owners[:4])),
-                   "soFar (%s) 3" % blocks, "start") + theorem(
-        "nodes", "rebuildNodes 1 (upTo 48 0) (start .array) 4 (%s)\n    (%s)" % (octets(owners[4:]), blocks),
+    return theorem("blocks", "%s 0 (%s) (empty_cache 1) 0" % (rebuilding("start.array", "start.control"), octets(owners[:4])),
+                   "so_far (%s) 3" % blocks, "start") + theorem(
+        "nodes", "rebuild_nodes 1 (up_to 48 0) start.array 4 (%s)\n    (%s)" % (octets(owners[4:]), blocks),
         literal(module.cache), "start")
 
 
@@ -101,14 +101,14 @@ def reads(start):
     lent, damaged = bytes([7]) * 64, start._replace(array=bytes([9]) + start.array[1:])
     found = ""
     for name, line, module, term, wanted, told in (
-            ("blank", 3, start, "start", model.Answer("blank", 0, 0, 0, 0), "Blank 0"),
-            ("cut", 64, start, "start", model.Answer("cut", 0, 4, 0, 0), "Cut 4"),
-            ("past", 512, start, "start", model.Answer("refused", 6, 0, 0, 0), "Refused 6 0 0 0"),
-            ("damaged", 0, damaged, "\n    (record { array = set (start .array) 0 9; control = start .control; cache = start .cache })",
+            ("read-blank", 3, start, "start", model.Answer("blank", 0, 0, 0, 0), "Blank 0"),
+            ("read-cut", 64, start, "start", model.Answer("cut", 0, 4, 0, 0), "Cut 4"),
+            ("read_past", 512, start, "start", model.Answer("refused", 6, 0, 0, 0), "Refused 6 0 0 0"),
+            ("read-damaged", 0, damaged, "\n    (record { array = set start.array 0 9; control = start.control; cache = start.cache })",
              model.Answer("refused", 25, 0, 0, 0), "Refused 25 0 0 0")):
         answer, _, output = model.read_call(KEYS, line, 4, lent, module)
         assert answer == wanted and output == output[:1] * 64
-        found += theorem("read-" + name, "given (read (upTo 48 0) %d 4 (replicate 64 7) %s)" % (line, term),
+        found += theorem(name, "given (read (up_to 48 0) %d 4 (replicate 64 7) %s)" % (line, term),
                          "(%s, replicate 64 %d)" % (told, output[0]), "given start")
     return found
 
@@ -150,19 +150,19 @@ def turned(start):
     cells, root, section = whole[-1]
     last = "record { cells = %s ∷ []; root = %d; section = %s } ∷ []" % (
         " ∷ ".join(cell_text(cell) for cell in cells), root, octets(section))
-    resuming = "(record { array = start .array; control = openControl; cache = start .cache })"
-    return (theorem("front", "turnFront 1 (start .control) (start .cache) 0 []", "%s ∷ []" % cell_text(whole[0][0][0]), "start")
-            + theorem("turned", "shapes (turnBatches (upTo 48 0) 0 start (start .cache) [])", shapes(whole), "shapes start")
-            + theorem("resumed", "shapes (turnBatches (upTo 48 0) 0\n    %s (start .cache) [])" % resuming, shapes(resumed),
-                      "shapes start openControl")
-            + theorem("last", "batchesOf 1 0 (upTo 48 0) (start .array) (start .cache) 0 0 [] (2 ∷ [])", last, "start"))
+    resuming = "(record { array = start.array; control = open_control; cache = start.cache })"
+    return (theorem("front", "turn_front 1 start.control start.cache 0 []", "%s ∷ []" % cell_text(whole[0][0][0]), "start")
+            + theorem("turned", "shapes (turn_batches (up_to 48 0) 0 start start.cache [])", shapes(whole), "shapes start")
+            + theorem("resumed", "shapes (turn_batches (up_to 48 0) 0\n    %s start.cache [])" % resuming, shapes(resumed),
+                      "shapes start open_control")
+            + theorem("last", "batches_of 1 0 (up_to 48 0) start.array start.cache 0 0 [] (2 ∷ [])", last, "start"))
 
 
 def finished(start):
     """How many stores of a turn of page 0 come before the commit of its last batch."""
     _, stores, _ = model.turn_stores(KEYS, 0, start)
     before = max(k for k, store in enumerate(stores) if len(store.pieces) == 2)
-    return theorem("finished", "beforeLast (turnBatches (upTo 48 0) 0 start (start .cache) [])", before, "start")
+    return theorem("finished", "before_last (turn_batches (up_to 48 0) 0 start start.cache [])", before, "start")
 
 
 def rebuilt_open(start):
@@ -171,8 +171,8 @@ def rebuilt_open(start):
     assert answer.number == 29
     block = model.array_node(1, start.array, 0, 0)
     slot = model.number8(1) + bytes([1]) + block
-    return theorem("open-blocks", "%s 0 (1 ∷ 0 ∷ 0 ∷ 0 ∷ []) (emptyCache 1) 0" % rebuilding("start .array", "openControl"),
-                   "soFar (%s) 0" % literal(slot + bytes(len(start.cache) - 73)), "start openControl")
+    return theorem("open_blocks", "%s 0 (1 ∷ 0 ∷ 0 ∷ 0 ∷ []) (empty_cache 1) 0" % rebuilding("start.array", "(open_control)"),
+                   "so_far (%s) 0" % literal(slot + bytes(len(start.cache) - 73)), "start open_control")
 
 
 def failing(start):
@@ -185,17 +185,17 @@ def failing(start):
             ([(136, 5), (block + 9, 63)], (1, 0, 0, 0), (28, 3, 1, 0)),
             ([(208, 4), (block + 9, 63)], (1, 0, 0, 0), (32, 3, 1, 0)),
             ([(208, 4), (4672, 1), (next_block + 8, 126)], (1, 2, 0, 0), (28, 3, 2, 0))):
-        array, term = bytearray(start.array), "start .array"
+        array, term = bytearray(start.array), "start.array"
         for at, byte in pieces:
             array[at] = byte
-            term = "set (%s) %d %d" % (term, at, byte)
+            term = "(set %s %d %d)" % (term, at, byte)
         array[shadow] = owners[1]
         answer, _ = model.recover_call(KEYS, UNLIMITED, start._replace(array=bytes(array), control=control))
         assert answer == model.Answer("refused", *wanted)
         end = "failed %d %d" % (answer.number, answer.first)
-        calls.append("%s\n    0 (%s) (emptyCache 1) 0" % (rebuilding(term, "start .control"), octets(owners)))
+        calls.append("%s\n    0 (%s) (empty_cache 1) 0" % (rebuilding(term, "start.control"), octets(owners)))
         ends.append(end)
-        answers.append("(recoverRebuilt (upTo 48 0) %d start [] (%s)) .answer" % (answer.stores, end))
+        answers.append("(recover_rebuilt (up_to 48 0) %d start [] (%s)).answer" % (answer.stores, end))
         told.append("Refused %d %d %d %d" % answer[1:])
     return theorem("failing", listed_terms(calls), listed_terms(ends), "start") + theorem(
         "failing-told", listed_terms(answers), listed_terms(told), "start")
@@ -207,8 +207,8 @@ def chosen(start):
     cell = content + model.data_side(KEYS, 1, content, 1, 3, 6)
     none, several, last = (model.choice(found) for found in ([], [5, 6], model.fitting(KEYS, cell, 1, 3, 3)))
     assert last == (None, 6)
-    step = "lineStep (record { family = 1; keys = upTo 48 0; array = replicate 72 0 ++ (%s); major = 3 }) 1 3" % literal(cell)
-    return theorem("chosen", listed_terms(["byChoice None", "byChoice Several", step]),
+    step = "line_step (record { family = 1; keys = up_to 48 0; array = replicate 72 0 ++ (%s); major = 3 }) 1 3" % literal(cell)
+    return theorem("chosen", listed_terms(["by_choice None", "by_choice Several", step]),
                    listed_terms(["bad %d" % none[0], "bad %d" % several[0], "to %d" % last[1]]), "")
 
 
@@ -218,11 +218,11 @@ def judged(start):
     assert model.read_call(KEYS, 0, 0, bytes(64), module)[0].number == 23
     assert model.turn_call(KEYS, 1, 0, module)[0].number == 23
     assert model.turn_call(KEYS, 1, 0, start._replace(control=opened(start)))[0].number == 30
-    torn = "(record { array = start .array; control = openControl; cache = set (start .cache) 0 9 })"
-    return "".join(theorem(name, call, number, "start openControl") for name, call, number in (
-        ("read-judged", "accessRefusal (upTo 48 0) 0 (replicate 64 0)\n    %s" % torn, 23),
-        ("turn-judged", "turnRefusal (upTo 48 0) 1 %s" % torn, 23),
-        ("other-judged", "turnRefusal (upTo 48 0) 1 (record { array = start .array; control = openControl; cache = start .cache })", 30)))
+    torn = "(record { array = start.array; control = open_control; cache = set start.cache 0 9 })"
+    return "".join(theorem(name, call, number, "start open_control") for name, call, number in (
+        ("read-judged", "access_refusal (up_to 48 0) 0 (replicate 64 0)\n    %s" % torn, 23),
+        ("turn-judged", "turn_refusal (up_to 48 0) 1 %s" % torn, 23),
+        ("other-judged", "turn_refusal (up_to 48 0) 1 (record { array = start.array; control = open_control; cache = start.cache })", 30)))
 
 
 def listed(start):
@@ -231,7 +231,7 @@ def listed(start):
     cache = b"".join(owner.to_bytes(8, "little") + bytes([dirty]) + bytes(64) for owner, dirty in slots)
     answer, output = model.dirty_list_call(bytes(32), start.control, cache)
     assert answer == model.Answer("done", 0, 0, 0, 0)
-    return theorem("listed", "dirtyPages (start .control) (%s) (replicate 32 0)" % literal(cache),
+    return theorem("listed", "dirty_pages start.control (%s) (replicate 32 0)" % literal(cache),
                    "record { answer = Done 0 0; output = %s }" % octets(output), "start")
 
 
@@ -239,25 +239,25 @@ HEAD = """\
 -- Written by tests/test_examples.py: a write with an eviction and a stop-loss store, outputs of reads, the batches of a turn and of a
 -- resumed one, what a recovery rebuilds, where a page is open too, the line that ends one, the step of a line without a phase byte,
 -- refusals in sequence, and a list of dirty pages. Assumes nothing.
-use mathlib.Core.Path.{_≡_, refl}
-use mathlib.Core.List.{List, [], _∷_, _++_, map}
-use Prim.Native.Nat.{ℕ, _*_}
+use mathlib.Core.Path.{◌≡◌, refl}
+use mathlib.Core.List.{List, [], ◌∷◌, ◌++◌, map}
+use Prim.Native.Nat.{ℕ, ◌*◌}
 use lib.ListN.{replicate, set}
-use Rattle·words.specs.Bytes.{part}
-use Rattle·candidates.specs.declared.Choice.the-variants.{None, Several}
-use Rattle·answer.specs.declared.Answer.{Answer}
-use Rattle·answer.specs.declared.Answer.the-variants.{Done, Blank, Cut, Refused}
-use Rattle·cache.specs.Cache.{emptyCache}
-use Rattle·control.specs.Control.{Cell}
-use Rattle·journal.specs.Journal.{media}
-use Rattle·calls·specs.specs.Call.{Module, Called, accessRefusal}
-use Rattle·calls·specs.specs.Read.{Reading, read}
-use Rattle·calls·specs.specs.Write.{write}
-use Rattle·calls·specs.specs.Turn.{Batch, turnRefusal, turnFront, turnBatches, batchesOf, beforeLast}
-use Rattle·calls·specs.specs.Recovery.{to, bad, byChoice, lineStep, soFar, failed, rebuildBlocks, rebuildNodes, recoverRebuilt}
-use Rattle·calls·specs.specs.DirtyPages.{dirtyPages}
-use Rattle·calls·proofs.proofs.Run.{run}
-use Rattle·calls·proofs.proofs.Sparse.{sparse, upTo}
+use Rattle.words.specs.Bytes.{part}
+use Rattle.candidates.specs.declared.Choice.TheVariants.{None, Several}
+use Rattle.answer.specs.declared.Answer.{Answer}
+use Rattle.answer.specs.declared.Answer.TheVariants.{Done, Blank, Cut, Refused}
+use Rattle.cache.specs.Cache.{empty_cache}
+use Rattle.control.specs.Control.{Cell}
+use Rattle.journal.specs.Journal.{media}
+use Rattle.calls.specs.Call.{Module, Called, access_refusal}
+use Rattle.calls.specs.Read.{Reading, read}
+use Rattle.calls.specs.Write.{write}
+use Rattle.calls.specs.Turn.{Batch, turn_refusal, turn_front, turn_batches, batches_of, before_last}
+use Rattle.calls.specs.Recovery.{to, bad, by_choice, line_step, so_far, failed, rebuild_blocks, rebuild_nodes, recover_rebuilt}
+use Rattle.calls.specs.DirtyPages.{dirty_pages}
+use Rattle.calls.proofs.Run.{run}
+use Rattle.calls.proofs.Sparse.{sparse, up_to}
 
 -- what a call answers, and what it leaves in the cache and in one cell
 record Seen : Type 0 where
@@ -266,22 +266,22 @@ record Seen : Type 0 where
   cell : List ℕ
 
 seen : ℕ → Called → Seen
-seen n c = record { answer = c .answer; cache = c .after .cache; cell = part (c .after .array) (72 * n) 72 }
+seen n c = record { answer = c.answer; cache = c.after.cache; cell = part c.after.array (72 * n) 72 }
 
 -- what a read answers, and what it leaves in its output
 given : Reading → Answer × List ℕ
-given r = (r .called .answer, r .output)
+given r = (r.called.answer, r.output)
 
 -- the cell numbers of each batch, and its section
 shapes : List Batch → List (List ℕ × List ℕ)
-shapes bs = map (λ (b : Batch). (map (λ (c : Cell). c .number) (b .cells), b .section)) bs
+shapes bs = map (λ (b : Batch). (map (λ (c : Cell). c.number) b.cells, b.section)) bs
 
 start : Module
 start =
     %s
 
-openControl : List ℕ
-openControl =
+open_control : List ℕ
+open_control =
     %s
 """
 

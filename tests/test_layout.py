@@ -108,12 +108,12 @@ def fields(tally, layout):
     defined = constants_of(r"(?m)^(\w+)(?: j)? = (\d+)(?: \+ 80 \* j)?$", "crates", "control", "specs", "Control.antt")
     record = "Control record"
     places = {
-        "depth": (header["NV_DEPTH_AT"], code["DEPTH"], defined["depthAt"], model.DEPTH_AT),
-        "root": (code["ROOT"], defined["rootAt"], model.ROOT_AT),
-        "queue's count": (code["COUNT"], defined["countAt"], model.COUNT_AT),
+        "depth": (header["NV_DEPTH_AT"], code["DEPTH"], defined["depth_at"], model.DEPTH_AT),
+        "root": (code["ROOT"], defined["root_at"], model.ROOT_AT),
+        "queue's count": (code["COUNT"], defined["count_at"], model.COUNT_AT),
         "new root": (code["NEW_ROOT"], model.NEW_ROOT_AT),
-        "queue: eight places": (code["PLACES"], defined["placeAt"], model.QUEUE_AT),
-        "count of the section": (header["NV_TURN_AT"], code["TURN"], defined["turnAt"], model.TURN_AT),
+        "queue: eight places": (code["PLACES"], defined["place_at"], model.QUEUE_AT),
+        "count of the section": (header["NV_TURN_AT"], code["TURN"], defined["turn_at"], model.TURN_AT),
         "open page": (header["NV_TURN_PAGE_AT"], code["TURN_PAGE"], model.TURN_PAGE_AT),
         "mask": (code["TURN_MASK"], model.TURN_MASK_AT),
     }
@@ -121,7 +121,7 @@ def fields(tally, layout):
         byte, _ = layout.at(record, "the " + start)
         tally.check(set(said) == {byte}, "%s is at %d, elsewhere %s" % (start, byte, said))
     lengths = {
-        record: (header["NV_CONTROL_LENGTH"], code["LENGTH"], defined["controlLength"], model.CONTROL_LENGTH),
+        record: (header["NV_CONTROL_LENGTH"], code["LENGTH"], defined["control_length"], model.CONTROL_LENGTH),
         "Keys": (header["NV_KEYS_LENGTH"], model.KEYS_LENGTH), "Array": (model.CELL,),
         "Queue place": (model.PLACE,), "Cache": (model.SLOT_LENGTH,),
         "List of dirty pages": (header["NV_LIST_LENGTH"], model.LIST_LENGTH),

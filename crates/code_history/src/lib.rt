@@ -1,3 +1,2 @@
 // The history rule said of the code: no function of its own.
 #![tactic(auto)]
-

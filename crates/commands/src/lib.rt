@@ -17,7 +17,7 @@ pub enum Command {
 }
 
 // What is kept of a line so far: nothing, its letter, the number of its first and of its second part, or that it is no command.
-#[derive(Drop)]
+#[derive(Clone, Copy)]
 pub enum Parser {
     Start,
     Letter {

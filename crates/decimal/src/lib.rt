@@ -5,7 +5,7 @@ ghost use Rattle.std.specs.Prelude.{◌≡◌};
 ghost use Rattle.decimal.specs.Decimal.{digit_after, with_digit};
 
 // Text that is to be a number.
-#[derive(Drop)]
+#[derive(Clone, Copy)]
 pub enum Number {
     Empty,
     Value(u64),

@@ -17,6 +17,7 @@ use Rattle.path.proofs.Ready.{Ready, Found, ready_of, line-differs, line-found, 
 use Rattle.read.proofs.Laws.{not_done}
 use Rattle.read.proofs.Reading.{side_is, side-told, read-differs, read-side, read-cut, read_done}
 use Rattle.read.proofs.read_line.Goals as goal
+use Rattle.read.proofs.read_line.Goals.{then-found-ne0+else-not-side_ok, else-found-ne0}
 
 pub returns-in_default : goal.returns-in_default
 unfolding refusal_of
@@ -70,8 +71,10 @@ returns-in_default-ended c =
     (record { at = λ i. (c.slice_known-3-1.given i).fits }) in
     let loads : (c.in-Loaded.missing ≡ missing c.args.cache.now (page_of c.args.line) (suc c.args.h)) × Found c.args.h c.args.keys.now c.args.array.now c.args.control.now c.args.cache.now c.args.line c.find_line-found.result = line-found ready c.requires.1.1.0 c.find_line-found.ensures c.in-Loaded.is in
     let passes : (c.find_line-found.result.minor ≡ 0) ⊎ (side_is (family c.args.control.now) c.args.keys.now c.args.array.now c.args.line c.find_line-found.result ≡ true) = let found = loads.1 in
-    ⊎_elim (λ w. inr (side-told found w.2.ensures w.4.ensures (w.5.left))) (λ w. inl w.left)
-    c.if-found-ne0.branch in
+    elim c.if-found-ne0.branch [
+      | then-found-ne0+else-not-side_ok w ↦ inr (side-told found w.family-family.ensures w.side_ok.ensures w.if-not-side_ok.false)
+      | else-found-ne0 w ↦ inl w.if-found-ne0.false
+    ] in
     let settled_on : ended c.settle-ended.result c.settle-ended.new.array c.settle-ended.new.control c.settle-ended.new.cache ≡ storing c.args.allowance (buffers c.args.array.now c.args.control.now c.args.cache.now) (path_stores c.args.h c.args.cache.now (page_of c.args.line) (root c.args.control.now)) (Done (length (path_stores c.args.h c.args.cache.now (page_of c.args.line) (root c.args.control.now))) 0) (with_path c.args.h c.args.array.now (page_of c.args.line) (suc c.args.h) c.args.cache.now) = c.settle-ended.ensures
     ∙ ap (λ (p : ℕ). storing c.args.allowance (buffers c.args.array.now c.args.control.now c.args.cache.now)
     (path_stores c.args.h c.args.cache.now p (root c.args.control.now))
@@ -79,7 +82,7 @@ returns-in_default-ended c =
     (with_path c.args.h c.args.array.now p (suc c.args.h) c.args.cache.now))
     c.page_of-p.ensures in
     read-cut loads.1 c.args.allowance c.args.out.now passes settled_on
-    (not_done c.settle-ended.result c.in_default-ended.keys2 _ _)
+    (c.in_default-ended.not-Done _ _)
 
 pub give-requires : goal.give-requires
 give-requires c =
@@ -105,8 +108,10 @@ returns c =
     (record { at = λ i. (c.slice_known-3-1.given i).fits }) in
     let loads : (c.in-Loaded.missing ≡ missing c.args.cache.now (page_of c.args.line) (suc c.args.h)) × Found c.args.h c.args.keys.now c.args.array.now c.args.control.now c.args.cache.now c.args.line c.find_line-found.result = line-found ready c.requires.1.1.0 c.find_line-found.ensures c.in-Loaded.is in
     let passes : (c.find_line-found.result.minor ≡ 0) ⊎ (side_is (family c.args.control.now) c.args.keys.now c.args.array.now c.args.line c.find_line-found.result ≡ true) = let found = loads.1 in
-    ⊎_elim (λ w. inr (side-told found w.2.ensures w.4.ensures (w.5.left))) (λ w. inl w.left)
-    c.if-found-ne0.branch in
+    elim c.if-found-ne0.branch [
+      | then-found-ne0+else-not-side_ok w ↦ inr (side-told found w.family-family.ensures w.side_ok.ensures w.if-not-side_ok.false)
+      | else-found-ne0 w ↦ inl w.if-found-ne0.false
+    ] in
     let settled_on : ended c.settle-ended.result c.settle-ended.new.array c.settle-ended.new.control c.settle-ended.new.cache ≡ storing c.args.allowance (buffers c.args.array.now c.args.control.now c.args.cache.now) (path_stores c.args.h c.args.cache.now (page_of c.args.line) (root c.args.control.now)) (Done (length (path_stores c.args.h c.args.cache.now (page_of c.args.line) (root c.args.control.now))) 0) (with_path c.args.h c.args.array.now (page_of c.args.line) (suc c.args.h) c.args.cache.now) = c.settle-ended.ensures
     ∙ ap (λ (p : ℕ). storing c.args.allowance (buffers c.args.array.now c.args.control.now c.args.cache.now)
     (path_stores c.args.h c.args.cache.now p (root c.args.control.now))

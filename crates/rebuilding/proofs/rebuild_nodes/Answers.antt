@@ -43,11 +43,11 @@ loop-s-preserved c =
     let fits : c.slots-n.result ≤ length c.args.owners = let size : length c.args.owners ≡ 10 = search rules in
     omega (arith, slots_small c.slots-n.ensures c.requires.1.0.flat) in
     elim c.if-owner-ne0.branch [
-      then-owner-ne0 w ↦
+      | then-owner-ne0 w ↦
           renewing-next c.args.h c.args.keys.now c.args.array.now c.args.owners c.slots-n.result fits c.loop-s.invariant c.loop-s-test.true
           (sym (filled _ w.if-owner-ne0.true)) (w.image-is ∙ w.put_node.ensures)
           (ap length w.image-is ∙ w.put_node.auto.image ∙ c.loop-s.invariant.full)
-    | else-owner-ne0 w ↦
+      | else-owner-ne0 w ↦
           renewing-empty c.args.h c.args.keys.now c.args.array.now c.args.owners c.slots-n.result fits c.loop-s.invariant c.loop-s-test.true
           w.if-owner-ne0.false w.image-is
     ]

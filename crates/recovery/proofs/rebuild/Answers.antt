@@ -34,18 +34,18 @@ pub returns-in-Sum : goal.returns-in-Sum
 unfolding counted
 returns-in-Sum c =
     let given : Module = buffers c.args.array.now c.args.control.now c.args.cache.now in
-    let ends_as : {r : Counters} → c.rebuild_counters-counters.result ≡ r → let h = depth c.args.control.now in recover_rebuilt c.args.keys.now c.args.stores given (take (slots h) c.args.owners) (counted r c.rebuild_counters-counters.new.image) ≡ recover_rebuilt c.args.keys.now c.args.stores given (take (slots h) c.args.owners) (rebuild_blocks h c.args.keys.now (media c.args.array.now c.args.control.now) 0 (take 4 c.args.owners) c.args.image.now 0) = λ e. ap (recover_rebuilt c.args.keys.now c.args.stores given (take (slots (depth c.args.control.now)) c.args.owners))
+    let ends_as : (r : Counters) → c.rebuild_counters-counters.result ≡ r → let h = depth c.args.control.now in recover_rebuilt c.args.keys.now c.args.stores given (take (slots h) c.args.owners) (counted r c.rebuild_counters-counters.new.image) ≡ recover_rebuilt c.args.keys.now c.args.stores given (take (slots h) c.args.owners) (rebuild_blocks h c.args.keys.now (media c.args.array.now c.args.control.now) 0 (take 4 c.args.owners) c.args.image.now 0) = λ r e. ap (recover_rebuilt c.args.keys.now c.args.stores given (take (slots (depth c.args.control.now)) c.args.owners))
     (ap (λ (r : Counters). counted r c.rebuild_counters-counters.new.image) (sym e) ∙ c.rebuild_counters-counters.ensures
     ∙ ap (λ (n : ℕ). rebuild_blocks n c.args.keys.now (media c.args.array.now c.args.control.now) 0 (take 4 c.args.owners) c.args.image.now 0)
     c.depth-h.ensures) in
-    c.rebuild_tree.ensures ∙ ends_as c.in-Sum.is
+    c.rebuild_tree.ensures ∙ ends_as _ c.in-Sum.is
 
 pub returns-in-Failed : goal.returns-in-Failed
 unfolding counted recover_rebuilt
 returns-in-Failed c =
     let given : Module = buffers c.args.array.now c.args.control.now c.args.cache.now in
-    let ends_as : {r : Counters} → c.rebuild_counters-counters.result ≡ r → let h = depth c.args.control.now in recover_rebuilt c.args.keys.now c.args.stores given (take (slots h) c.args.owners) (counted r c.rebuild_counters-counters.new.image) ≡ recover_rebuilt c.args.keys.now c.args.stores given (take (slots h) c.args.owners) (rebuild_blocks h c.args.keys.now (media c.args.array.now c.args.control.now) 0 (take 4 c.args.owners) c.args.image.now 0) = λ e. ap (recover_rebuilt c.args.keys.now c.args.stores given (take (slots (depth c.args.control.now)) c.args.owners))
+    let ends_as : (r : Counters) → c.rebuild_counters-counters.result ≡ r → let h = depth c.args.control.now in recover_rebuilt c.args.keys.now c.args.stores given (take (slots h) c.args.owners) (counted r c.rebuild_counters-counters.new.image) ≡ recover_rebuilt c.args.keys.now c.args.stores given (take (slots h) c.args.owners) (rebuild_blocks h c.args.keys.now (media c.args.array.now c.args.control.now) 0 (take 4 c.args.owners) c.args.image.now 0) = λ r e. ap (recover_rebuilt c.args.keys.now c.args.stores given (take (slots (depth c.args.control.now)) c.args.owners))
     (ap (λ (r : Counters). counted r c.rebuild_counters-counters.new.image) (sym e) ∙ c.rebuild_counters-counters.ensures
     ∙ ap (λ (n : ℕ). rebuild_blocks n c.args.keys.now (media c.args.array.now c.args.control.now) 0 (take 4 c.args.owners) c.args.image.now 0)
     c.depth-h.ensures) in
-    refused_as given (ends_as c.in-Failed.is) c.refuse_after.ensures
+    refused_as given (ends_as _ c.in-Failed.is) c.refuse_after.ensures

@@ -14,6 +14,7 @@ use Rattle.call_laws.proofs.Kept.{Bytes, array-cells}
 use Rattle.call_laws.proofs.Rebuilt.{made-depth}
 use Rattle.recovery.proofs.Ends.{ends-refused, ends-cut, ends-media, wanted-none, wanted-some}
 use Rattle.recovery.proofs.recover.Goals as goal
+use Rattle.recovery.proofs.recover.Goals.{then-n-ne0+else-stores-n, else-n-ne0}
 
 pub returns-then-number-ne0 : goal.returns-then-number-ne0
 returns-then-number-ne0 c =
@@ -75,10 +76,10 @@ recover_media-requires c =
 pub returns : goal.returns
 returns c =
     let given : Module = buffers c.args.array.now c.args.control.now c.args.cache.now in
-    let all_made : length (pending_stores c.args.control.now) ≤ c.finish-stores.result = ⊎_elim
-    (λ w. omega (arith, w.1.left, wanted-some c.args.control.now c.count-n.ensures w.0.taken))
-    (λ w. omega (arith, wanted-none c.args.control.now c.count-n.ensures w.left))
-    c.if-n-ne0.branch in
+    let all_made : length (pending_stores c.args.control.now) ≤ c.finish-stores.result = elim c.if-n-ne0.branch [
+      | then-n-ne0+else-stores-n w ↦ omega (arith, w.if-stores-n.false, wanted-some c.args.control.now c.count-n.ensures w.if-n-ne0.true)
+      | else-n-ne0 w ↦ omega (arith, wanted-none c.args.control.now c.count-n.ensures w.if-n-ne0.false)
+    ] in
     c.recover_media.ensures
     ∙ ends-media c.args.keys.now c.args.allowance given (sym c.if-number-ne0.false ∙ c.opening-number.ensures)
     c.finish-stores.ensures all_made

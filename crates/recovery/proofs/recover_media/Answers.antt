@@ -27,11 +27,9 @@ returns-in-At c =
     (ends-bad c.args.keys.now c.args.stores given c.shadow_owners-owners.result listed searched
     c.in-At.is) c.refuse_after.ensures
 
-pub X-slice-bounds-image-end : goal.X-slice-bounds-image-end
+pub slice_bounds-image-end : goal.slice_bounds-image-end
 unfolding cache_length
-X-slice-bounds-image-end c =
-    let short : length c.args.cache.now ≤ 730 = omega (arith, c.requires.1.1.cache, slots_small {h = depth c.args.control.now} refl c.requires.1.1.flat) in
-    short
+slice_bounds-image-end c = omega (arith, c.requires.1.1.cache, slots_small {h = depth c.args.control.now} refl c.requires.1.1.flat)
 
 pub rebuild-requires : goal.rebuild-requires
 unfolding cache_length

@@ -47,8 +47,8 @@ loop-s-preserved c =
       omega arith,
       turn true
           (elim c.if-o-ne0.branch [
-            then-o-ne0+else-not-belongs w ↦ place-filled _ _ w.if-o-ne0.true ∙ sym w.belongs.ensures ∙ w.if-not-belongs.false
-          | else-o-ne0 w ↦ place-empty _ _ w.if-o-ne0.false
+            | then-o-ne0+else-not-belongs w ↦ place-filled _ _ w.if-o-ne0.true ∙ sym w.belongs.ensures ∙ w.if-not-belongs.false
+            | else-o-ne0 w ↦ place-empty _ _ w.if-o-ne0.false
           ]),
     )
 

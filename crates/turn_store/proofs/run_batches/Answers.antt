@@ -41,7 +41,7 @@ overflow_mul-line c =
       number = c.put_front-held.ensures.value;
       size = c.put_front-held.auto.control ∙ c.requires.keys_len.1.control;
     } in
-    let turning : Turning c.args.h c.family-family.result c.args.keys.now c.args.array.now c.args.control.now c.args.cache.now c.args.p c.root-old.result c.args.allowance c.loop-j.control c.loop-j.array c.loop-j.false c.loop-j.held c.loop-j.rest = c.loop-j.invariant c.args.control.now begins in
+    let turning : Turning c.args.h c.family-family.result c.args.keys.now c.args.array.now c.args.control.now c.args.cache.now c.args.p c.root-old.result c.args.allowance c.loop-j.control c.loop-j.array c.loop-j.left c.loop-j.held c.loop-j.rest = c.loop-j.invariant c.args.control.now begins in
     let there : There c.loop-j.array c.args.p c.lowest-j.result = line-there c.args.h c.loop-j.array c.args.p c.lowest-j.result c.requires.keys_len.1.sized.flat
     turning.formed.array-length c.requires.keys_len.1.page c.lowest-j.ensures.1 in
     omega (arith, there.small)
@@ -64,7 +64,7 @@ overflow_add-line c =
       number = c.put_front-held.ensures.value;
       size = c.put_front-held.auto.control ∙ c.requires.keys_len.1.control;
     } in
-    let turning : Turning c.args.h c.family-family.result c.args.keys.now c.args.array.now c.args.control.now c.args.cache.now c.args.p c.root-old.result c.args.allowance c.loop-j.control c.loop-j.array c.loop-j.false c.loop-j.held c.loop-j.rest = c.loop-j.invariant c.args.control.now begins in
+    let turning : Turning c.args.h c.family-family.result c.args.keys.now c.args.array.now c.args.control.now c.args.cache.now c.args.p c.root-old.result c.args.allowance c.loop-j.control c.loop-j.array c.loop-j.left c.loop-j.held c.loop-j.rest = c.loop-j.invariant c.args.control.now begins in
     let there : There c.loop-j.array c.args.p c.lowest-j.result = line-there c.args.h c.loop-j.array c.args.p c.lowest-j.result c.requires.keys_len.1.sized.flat
     turning.formed.array-length c.requires.keys_len.1.page c.lowest-j.ensures.1 in
     omega (arith, there.small)
@@ -90,7 +90,7 @@ put_line-requires c =
       number = c.put_front-held.ensures.value;
       size = c.put_front-held.auto.control ∙ c.requires.keys_len.1.control;
     } in
-    let turning : Turning c.args.h c.family-family.result c.args.keys.now c.args.array.now c.args.control.now c.args.cache.now c.args.p c.root-old.result c.args.allowance c.loop-j.control c.loop-j.array c.loop-j.false c.loop-j.held c.loop-j.rest = c.loop-j.invariant c.args.control.now begins in
+    let turning : Turning c.args.h c.family-family.result c.args.keys.now c.args.array.now c.args.control.now c.args.cache.now c.args.p c.root-old.result c.args.allowance c.loop-j.control c.loop-j.array c.loop-j.left c.loop-j.held c.loop-j.rest = c.loop-j.invariant c.args.control.now begins in
     let there : There c.loop-j.array c.args.p c.lowest-j.result = line-there c.args.h c.loop-j.array c.args.p c.lowest-j.result c.requires.keys_len.1.sized.flat
     turning.formed.array-length c.requires.keys_len.1.page c.lowest-j.ensures.1 in
     let t = turning in (
@@ -124,10 +124,10 @@ overflow_add-held c =
       number = c.put_front-held.ensures.value;
       size = c.put_front-held.auto.control ∙ c.requires.keys_len.1.control;
     } in
-    let turning : Turning c.args.h c.family-family.result c.args.keys.now c.args.array.now c.args.control.now c.args.cache.now c.args.p c.root-old.result c.args.allowance c.loop-j.control c.loop-j.array c.loop-j.false c.loop-j.held c.loop-j.rest = c.loop-j.invariant c.args.control.now begins in
+    let turning : Turning c.args.h c.family-family.result c.args.keys.now c.args.array.now c.args.control.now c.args.cache.now c.args.p c.root-old.result c.args.allowance c.loop-j.control c.loop-j.array c.loop-j.left c.loop-j.held c.loop-j.rest = c.loop-j.invariant c.args.control.now begins in
     let several : 2 ≤ length (set_bits c.loop-j.rest) = omega (arith, c.remaining.ensures, c.loop-j-test.true) in
-    let line : Runs c.loop-j.array c.put_line.new.control (c.loop-j.held + 1) c.loop-j.false = line-runs _ c.args.keys.now _ begins turning several c.lowest-j.ensures.0
-    c.lowest-j.ensures.1 c.without_lowest-next.ensures c.without_lowest-next.type-inv c.put_line.ensures in
+    let line : Runs c.loop-j.array c.put_line.new.control (c.loop-j.held + 1) c.loop-j.left = line-runs _ c.args.keys.now _ begins turning several c.lowest-j.ensures.0
+    c.lowest-j.ensures.1 c.without_lowest-next.ensures c.without_lowest-next.type_inv c.put_line.ensures in
     omega (arith, line.few)
 
 pub run_turn-left-requires : goal.run_turn-left-requires
@@ -148,10 +148,10 @@ run_turn-left-requires c =
       number = c.put_front-held.ensures.value;
       size = c.put_front-held.auto.control ∙ c.requires.keys_len.1.control;
     } in
-    let turning : Turning c.args.h c.family-family.result c.args.keys.now c.args.array.now c.args.control.now c.args.cache.now c.args.p c.root-old.result c.args.allowance c.loop-j.control c.loop-j.array c.loop-j.false c.loop-j.held c.loop-j.rest = c.loop-j.invariant c.args.control.now begins in
+    let turning : Turning c.args.h c.family-family.result c.args.keys.now c.args.array.now c.args.control.now c.args.cache.now c.args.p c.root-old.result c.args.allowance c.loop-j.control c.loop-j.array c.loop-j.left c.loop-j.held c.loop-j.rest = c.loop-j.invariant c.args.control.now begins in
     let several : 2 ≤ length (set_bits c.loop-j.rest) = omega (arith, c.remaining.ensures, c.loop-j-test.true) in
-    let line : Runs c.loop-j.array c.put_line.new.control (c.loop-j.held + 1) c.loop-j.false = line-runs _ c.args.keys.now _ begins turning several c.lowest-j.ensures.0
-    c.lowest-j.ensures.1 c.without_lowest-next.ensures c.without_lowest-next.type-inv c.put_line.ensures in
+    let line : Runs c.loop-j.array c.put_line.new.control (c.loop-j.held + 1) c.loop-j.left = line-runs _ c.args.keys.now _ begins turning several c.lowest-j.ensures.0
+    c.lowest-j.ensures.1 c.without_lowest-next.ensures c.without_lowest-next.type_inv c.put_line.ensures in
     let s = line in (
       c.put_line.auto.control ∙ turning.size,
       ((s.some, s.few), s.inside),
@@ -178,19 +178,19 @@ loop-j-smaller c =
       number = c.put_front-held.ensures.value;
       size = c.put_front-held.auto.control ∙ c.requires.keys_len.1.control;
     } in
-    let turning : Turning c.args.h c.family-family.result c.args.keys.now c.args.array.now c.args.control.now c.args.cache.now c.args.p c.root-old.result c.args.allowance c.loop-j.control c.loop-j.array c.loop-j.false c.loop-j.held c.loop-j.rest = c.loop-j.invariant c.args.control.now begins in
+    let turning : Turning c.args.h c.family-family.result c.args.keys.now c.args.array.now c.args.control.now c.args.cache.now c.args.p c.root-old.result c.args.allowance c.loop-j.control c.loop-j.array c.loop-j.left c.loop-j.held c.loop-j.rest = c.loop-j.invariant c.args.control.now begins in
     let several : 2 ≤ length (set_bits c.loop-j.rest) = omega (arith, c.remaining.ensures, c.loop-j-test.true) in
     omega (
       arith,
       ap length (split _ c.args.keys.now _ begins turning several c.lowest-j.ensures.0
-          c.lowest-j.ensures.1 c.without_lowest-next.ensures c.without_lowest-next.type-inv),
+          c.lowest-j.ensures.1 c.without_lowest-next.ensures c.without_lowest-next.type_inv),
     )
 
 pub loop-j-preserved : goal.loop-j-preserved
 loop-j-preserved c =
     let several : 2 ≤ length (set_bits c.loop-j.rest) = omega (arith, c.remaining.ensures, c.loop-j-test.true) in
     λ k g. turning-more _ c.args.keys.now _ g (c.loop-j.invariant k g) several c.lowest-j.ensures.0
-    c.lowest-j.ensures.1 c.without_lowest-next.ensures c.without_lowest-next.type-inv
+    c.lowest-j.ensures.1 c.without_lowest-next.ensures c.without_lowest-next.type_inv
     c.put_line.ensures
     (record { left = c.run_turn-left.ensures.control_after; number = c.run_turn-left.ensures.value })
 
@@ -212,7 +212,7 @@ put_last-n-requires c =
       number = c.put_front-held.ensures.value;
       size = c.put_front-held.auto.control ∙ c.requires.keys_len.1.control;
     } in
-    let turning : Turning c.args.h c.family-family.result c.args.keys.now c.args.array.now c.args.control.now c.args.cache.now c.args.p c.root-old.result c.args.allowance c.loop-j.control c.loop-j.array c.loop-j.false c.loop-j.held c.loop-j.rest = c.loop-j.invariant c.args.control.now begins in
+    let turning : Turning c.args.h c.family-family.result c.args.keys.now c.args.array.now c.args.control.now c.args.cache.now c.args.p c.root-old.result c.args.allowance c.loop-j.control c.loop-j.array c.loop-j.left c.loop-j.held c.loop-j.rest = c.loop-j.invariant c.args.control.now begins in
     let few-left : length (set_bits c.loop-j.rest) < 2 = omega (arith, c.remaining.ensures, c.loop-j-test.false) in
     let t = turning in
     record {
@@ -256,9 +256,9 @@ run_turn-made-requires c =
       number = c.put_front-held.ensures.value;
       size = c.put_front-held.auto.control ∙ c.requires.keys_len.1.control;
     } in
-    let turning : Turning c.args.h c.family-family.result c.args.keys.now c.args.array.now c.args.control.now c.args.cache.now c.args.p c.root-old.result c.args.allowance c.loop-j.control c.loop-j.array c.loop-j.false c.loop-j.held c.loop-j.rest = c.loop-j.invariant c.args.control.now begins in
+    let turning : Turning c.args.h c.family-family.result c.args.keys.now c.args.array.now c.args.control.now c.args.cache.now c.args.p c.root-old.result c.args.allowance c.loop-j.control c.loop-j.array c.loop-j.left c.loop-j.held c.loop-j.rest = c.loop-j.invariant c.args.control.now begins in
     let few-left : length (set_bits c.loop-j.rest) < 2 = omega (arith, c.remaining.ensures, c.loop-j-test.false) in
-    let last : Runs c.loop-j.array c.put_last-n.new.control c.put_last-n.result c.loop-j.false = last_runs _ c.args.keys.now _ begins turning few-left c.requires.block_value.0
+    let last : Runs c.loop-j.array c.put_last-n.new.control c.put_last-n.result c.loop-j.left = last_runs _ c.args.keys.now _ begins turning few-left c.requires.block_value.0
     c.put_last-n.ensures.control_after c.put_last-n.ensures.value in
     let s = last in (
       c.put_last-n.auto.control ∙ turning.size,
@@ -283,7 +283,7 @@ overflow_sub-result c =
       number = c.put_front-held.ensures.value;
       size = c.put_front-held.auto.control ∙ c.requires.keys_len.1.control;
     } in
-    let turning : Turning c.args.h c.family-family.result c.args.keys.now c.args.array.now c.args.control.now c.args.cache.now c.args.p c.root-old.result c.args.allowance c.loop-j.control c.loop-j.array c.loop-j.false c.loop-j.held c.loop-j.rest = c.loop-j.invariant c.args.control.now begins in
+    let turning : Turning c.args.h c.family-family.result c.args.keys.now c.args.array.now c.args.control.now c.args.cache.now c.args.p c.root-old.result c.args.allowance c.loop-j.control c.loop-j.array c.loop-j.left c.loop-j.held c.loop-j.rest = c.loop-j.invariant c.args.control.now begins in
     omega (arith, turning.within)
 
 pub overflow_add-result : goal.overflow_add-result
@@ -304,7 +304,7 @@ overflow_add-result c =
       number = c.put_front-held.ensures.value;
       size = c.put_front-held.auto.control ∙ c.requires.keys_len.1.control;
     } in
-    let turning : Turning c.args.h c.family-family.result c.args.keys.now c.args.array.now c.args.control.now c.args.cache.now c.args.p c.root-old.result c.args.allowance c.loop-j.control c.loop-j.array c.loop-j.false c.loop-j.held c.loop-j.rest = c.loop-j.invariant c.args.control.now begins in
+    let turning : Turning c.args.h c.family-family.result c.args.keys.now c.args.array.now c.args.control.now c.args.cache.now c.args.p c.root-old.result c.args.allowance c.loop-j.control c.loop-j.array c.loop-j.left c.loop-j.held c.loop-j.rest = c.loop-j.invariant c.args.control.now begins in
     omega (arith, turning.within, ran-few _ _ _ c.run_turn-made.ensures.value, c.ranges.allowance.fits)
 
 pub overflow_mul-result : goal.overflow_mul-result
@@ -325,9 +325,9 @@ overflow_mul-result c =
       number = c.put_front-held.ensures.value;
       size = c.put_front-held.auto.control ∙ c.requires.keys_len.1.control;
     } in
-    let turning : Turning c.args.h c.family-family.result c.args.keys.now c.args.array.now c.args.control.now c.args.cache.now c.args.p c.root-old.result c.args.allowance c.loop-j.control c.loop-j.array c.loop-j.false c.loop-j.held c.loop-j.rest = c.loop-j.invariant c.args.control.now begins in
+    let turning : Turning c.args.h c.family-family.result c.args.keys.now c.args.array.now c.args.control.now c.args.cache.now c.args.p c.root-old.result c.args.allowance c.loop-j.control c.loop-j.array c.loop-j.left c.loop-j.held c.loop-j.rest = c.loop-j.invariant c.args.control.now begins in
     let few-left : length (set_bits c.loop-j.rest) < 2 = omega (arith, c.remaining.ensures, c.loop-j-test.false) in
-    let last : Runs c.loop-j.array c.put_last-n.new.control c.put_last-n.result c.loop-j.false = last_runs _ c.args.keys.now _ begins turning few-left c.requires.block_value.0
+    let last : Runs c.loop-j.array c.put_last-n.new.control c.put_last-n.result c.loop-j.left = last_runs _ c.args.keys.now _ begins turning few-left c.requires.block_value.0
     c.put_last-n.ensures.control_after c.put_last-n.ensures.value in
     omega (arith, last.few)
 
@@ -349,9 +349,9 @@ overflow_add-result-2 c =
       number = c.put_front-held.ensures.value;
       size = c.put_front-held.auto.control ∙ c.requires.keys_len.1.control;
     } in
-    let turning : Turning c.args.h c.family-family.result c.args.keys.now c.args.array.now c.args.control.now c.args.cache.now c.args.p c.root-old.result c.args.allowance c.loop-j.control c.loop-j.array c.loop-j.false c.loop-j.held c.loop-j.rest = c.loop-j.invariant c.args.control.now begins in
+    let turning : Turning c.args.h c.family-family.result c.args.keys.now c.args.array.now c.args.control.now c.args.cache.now c.args.p c.root-old.result c.args.allowance c.loop-j.control c.loop-j.array c.loop-j.left c.loop-j.held c.loop-j.rest = c.loop-j.invariant c.args.control.now begins in
     let few-left : length (set_bits c.loop-j.rest) < 2 = omega (arith, c.remaining.ensures, c.loop-j-test.false) in
-    let last : Runs c.loop-j.array c.put_last-n.new.control c.put_last-n.result c.loop-j.false = last_runs _ c.args.keys.now _ begins turning few-left c.requires.block_value.0
+    let last : Runs c.loop-j.array c.put_last-n.new.control c.put_last-n.result c.loop-j.left = last_runs _ c.args.keys.now _ begins turning few-left c.requires.block_value.0
     c.put_last-n.ensures.control_after c.put_last-n.ensures.value in
     omega (arith, last.few)
 
@@ -373,7 +373,7 @@ returns c =
       number = c.put_front-held.ensures.value;
       size = c.put_front-held.auto.control ∙ c.requires.keys_len.1.control;
     } in
-    let turning : Turning c.args.h c.family-family.result c.args.keys.now c.args.array.now c.args.control.now c.args.cache.now c.args.p c.root-old.result c.args.allowance c.loop-j.control c.loop-j.array c.loop-j.false c.loop-j.held c.loop-j.rest = c.loop-j.invariant c.args.control.now begins in
+    let turning : Turning c.args.h c.family-family.result c.args.keys.now c.args.array.now c.args.control.now c.args.cache.now c.args.p c.root-old.result c.args.allowance c.loop-j.control c.loop-j.array c.loop-j.left c.loop-j.held c.loop-j.rest = c.loop-j.invariant c.args.control.now begins in
     let few-left : length (set_bits c.loop-j.rest) < 2 = omega (arith, c.remaining.ensures, c.loop-j-test.false) in
     turned-makes _ c.args.keys.now _ begins turning few-left c.requires.block_value.0
     c.put_last-n.ensures.control_after c.put_last-n.ensures.value c.requires.block_value.1

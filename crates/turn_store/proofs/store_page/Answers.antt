@@ -1,4 +1,5 @@
 -- `turn_store::store_page` meets its contract. Assumes nothing.
+use borrow.Author.Tests.{not-true, not-false}
 use mathlib.Core.Path.{◌≡◌, ap, ap₂, ◌∙◌}
 use mathlib.Core.List.{List}
 use Prim.Native.Nat.{ℕ, ◌≤◌}
@@ -57,7 +58,7 @@ returns-then-not-made c =
     let tags : (l : ℕ) → l ≤ c.args.h → get_or c.path_tags-tags.result l 0 ≡ renewed_tag c.args.h c.args.keys.now c.args.array.now c.args.cache.now c.args.p (turned (current c.args.h c.args.array.now c.args.cache.now 0 c.args.p)) l = λ l q. c.path_tags-tags.ensures l q
     ∙ ap (λ (b : List ℕ). renewed_tag c.args.h c.args.keys.now c.args.array.now c.args.cache.now c.args.p b l) block in
     page-cut ready c.requires.1.1 c.args.keys.now c.requires.1.0 c.args.allowance c.path_tags-tags.result
-    tags c.run_batches-made.ensures c.if-not-made.true
+    tags c.run_batches-made.ensures (not-true _ c.if-not-made.true)
 
 pub load_missing-requires : goal.load_missing-requires
 load_missing-requires c = (
@@ -113,6 +114,6 @@ returns c =
     let tags : (l : ℕ) → l ≤ c.args.h → get_or c.path_tags-tags.result l 0 ≡ renewed_tag c.args.h c.args.keys.now c.args.array.now c.args.cache.now c.args.p (turned (current c.args.h c.args.array.now c.args.cache.now 0 c.args.p)) l = λ l q. c.path_tags-tags.ensures l q
     ∙ ap (λ (b : List ℕ). renewed_tag c.args.h c.args.keys.now c.args.array.now c.args.cache.now c.args.p b l) block in
     page-done ready c.requires.1.1 c.args.keys.now c.requires.1.0 c.args.allowance c.path_tags-tags.result tags
-    c.run_batches-made.ensures c.run_batches-made.auto.array c.if-not-made.false c.renew_path.new.cache
+    c.run_batches-made.ensures c.run_batches-made.auto.array (not-false _ c.if-not-made.false) c.renew_path.new.cache
     (c.renew_path.ensures
     ∙ ap₂ {C = List ℕ} (λ (x b : List ℕ). renewed_by x c.args.p b _ c.path_tags-tags.result c.args.h) c.load_missing.ensures block)
