@@ -4,25 +4,19 @@
 ghost use Rattle.std.specs.Prelude.{◌≡◌, ◌<◌, length, get_or, drop};
 ghost use Rattle.bits.specs.Bits.{set_bits};
 
-fn wide(x: u32) -> usize
-    ensures { result ≡ x }
-{
-    x as usize
-}
-
 // The lowest set bit.
 pub fn lowest(mask: u64) -> usize
     requires { 0 < mask }
     ensures { (result ≡ get_or (set_bits mask) 0 0) × (result < 64) }
 {
-    wide(u64::trailing_zeros(mask))
+    mask.trailing_zeros() as usize
 }
 
 // How many are set.
 pub fn remaining(mask: u64) -> usize
     ensures { result ≡ length (set_bits mask) }
 {
-    wide(u64::count_ones(mask))
+    mask.count_ones() as usize
 }
 
 // The number with its lowest set bit cleared.

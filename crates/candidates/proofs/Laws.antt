@@ -10,6 +10,7 @@ use borrow.Author.Tests.{eq-eqb, ne_eqb, le-leb, lt-leb}
 use lib.Dec.{leb, eqb}
 use lib.ListN.{length, take, drop, take-append-drop, drop_of_length-le}
 use lib.Seq.{drop-drop}
+use Rattle.std.specs.List.{list_all, range_with_len}
 use Rattle.words.specs.Bytes.{number, from_le, part}
 use Rattle.words.proofs.Digits.{Below, below-take}
 use Rattle.words.proofs.Order.{eq-or-not}
@@ -51,7 +52,7 @@ zero-append (x ∷ xs) ys = go (eqb x 0) (zero-append xs ys)
 
 -- word i of a cell, and those after it
 module _ (cell : List ℕ) (i : ℕ) where
-  abbrev word : ℕ
+  abbrev pub word : ℕ
   word = from_le (part cell (8 * i) 8)
 
   split : all_zero (drop (8 * i) cell) ≡ eqb word 0 && all_zero (drop (8 * (i + 1)) cell)
@@ -62,17 +63,18 @@ module _ (cell : List ℕ) (i : ℕ) where
       ∙ ap₂ (λ (a : Bool) (l : List ℕ). a && all_zero l) (zero_word (part cell (8 * i) 8))
       (drop-drop 8 (8 * i) cell ∙ ap (λ (n : ℕ). drop n cell) next)
 
-  pub zeros-stop : {w : ℕ} → w ≡ word → (w ≡ 0 → ⊥) → false ≡ all_zero (drop (8 * i) cell)
-  zeros-stop e n = sym (split ∙ ap (λ (b : Bool). b && all_zero (drop (8 * (i + 1)) cell)) (ne_eqb word 0 (λ z. n (e ∙ z))))
-
-  pub zeros-next : {w : ℕ} → w ≡ word → w ≡ 0 → all_zero (drop (8 * i) cell) ≡ all_zero (drop (8 * (i + 1)) cell)
-  zeros-next e z = split ∙ ap (λ (b : Bool). b && all_zero (drop (8 * (i + 1)) cell)) (eq-eqb word 0 (sym e ∙ z))
-
-pub zeros-end : (cell : List ℕ) (i : ℕ) → length cell ≡ 72 → 9 ≤ i → all_zero (drop (8 * i) cell) ≡ true
+zeros-end : (cell : List ℕ) (i : ℕ) → length cell ≡ 72 → 9 ≤ i → all_zero (drop (8 * i) cell) ≡ true
 unfolding all_zero
 zeros-end cell i size p =
     let past : length cell ≤ 8 * i = omega arith in
     ap all_zero (drop_of_length-le cell past)
+
+-- the n words from word i on, which are the last
+pub words-zero : (cell : List ℕ) (n i : ℕ) → length cell ≡ 72 → i + n ≡ 9
+    → list_all (λ (j : ℕ). eqb (word cell j) 0) (range_with_len i n) ≡ all_zero (drop (8 * i) cell)
+words-zero cell zero i size e = sym (zeros-end cell i size (omega arith))
+words-zero cell (suc n) i size e =
+    ap (λ (b : Bool). eqb (word cell i) 0 && b) (words-zero cell n (i + 1) size (omega arith)) ∙ sym (split cell i)
 
 -- ---- a cell by the state of its hash
 

@@ -5,8 +5,10 @@ ghost use Rattle.std.specs.Prelude.{◌≡◌, true, ◌&&◌, ◌<◌, leb, len
 ghost use Rattle.candidates.specs.Candidates.{all_zero, also as also_of, choice};
 ghost use Rattle.candidates.specs.Hashed.{hash_fits};
 
+use words::Word;
+
 // None of them fits the line's cell, only one does, or several do.
-#[derive(Drop)]
+#[derive(Clone, Copy, Debug, PartialEq, Eq)]
 pub enum Choice {
     None,
     Only(u8),
@@ -29,14 +31,7 @@ fn all_zero(cell: &[u8]) -> bool
     requires { length cell.now ≡ 72 }
     ensures { result ≡ all_zero cell.now }
 {
-    let mut i = 0;
-    while i < 9 {
-        if words::load64(cell, 8 * i) != 0 {
-            return false;
-        }
-        i += 1;
-    }
-    true
+    (0..9).all(|i| u64::load(cell, 8 * i) == 0)
 }
 
 // Whether a cell fits a minor, by the state of its hash before the minor.
@@ -47,7 +42,7 @@ fn fits_minor(state: [u64; 4], cell: &[u8], v: u8) -> bool
     if v == 0 {
         return all_zero(cell);
     }
-    words::load64(cell, 64) == tag::data_hash_from(state, v as u64)
+    u64::load(cell, 64) == tag::data_hash_from(state, u64::from(v))
 }
 
 // The choice among earlier candidates, and v, if it is not past 127.
@@ -55,13 +50,11 @@ fn with_candidate(earlier: Choice, state: [u64; 4], cell: &[u8], v: u8) -> Choic
     requires { length cell.now ≡ 72 }
     ensures { result ≡ also_of earlier v (leb v 127 && hash_fits state cell.now v) }
 {
-    if 127 < v {
-        return earlier;
+    if v <= 127 && fits_minor(state, cell, v) {
+        also(earlier, v)
+    } else {
+        earlier
     }
-    if fits_minor(state, cell, v) {
-        return also(earlier, v);
-    }
-    earlier
 }
 
 // The choice for a line whose stored minor this is, under a major. Content, line and major are hashed once.
@@ -71,11 +64,8 @@ pub fn choose(keys: &[u8], cell: &[u8], line: u64, major: u64, minor: u8) -> Cho
 {
     let state = tag::data_state(keys, &cell[0..64], line, major);
     let mut chosen = Choice::None;
-    let mut k: u8 = 0;
-    while k < 4 {
-        let next = with_candidate(chosen, state, cell, minor + k);
-        chosen = next;
-        k += 1;
+    for k in 0..4 {
+        chosen = with_candidate(chosen, state, cell, minor + k);
     }
     chosen
 }

@@ -34,8 +34,12 @@ quarter_rows s =
     row (λ j. slice_index (column s j) 0) ∷ row (λ j. slice_index (column s j) 1)
     ∷ row (λ j. slice_index (column s j) 2) ∷ row (λ j. slice_index (column s j) 3) ∷ []
 
+-- a row turned left by n words
+abbrev pub turned_row : ℕ → List ℕ → List ℕ
+turned_row n r = row (λ j. slice_index r ((j + n) % 4))
+
 -- rows 1, 2 and 3 turned left by a, b and c words
 abbrev pub turned : ℕ → ℕ → ℕ → List (List ℕ) → List (List ℕ)
 turned a b c s =
-    slice_index_or s 0 [] ∷ row (λ j. word s 1 ((j + a) % 4))
-    ∷ row (λ j. word s 2 ((j + b) % 4)) ∷ row (λ j. word s 3 ((j + c) % 4)) ∷ []
+    slice_index_or s 0 [] ∷ turned_row a (slice_index_or s 1 []) ∷ turned_row b (slice_index_or s 2 [])
+    ∷ turned_row c (slice_index_or s 3 []) ∷ []

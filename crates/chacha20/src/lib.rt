@@ -3,20 +3,19 @@
 
 ghost use Rattle.std.specs.Prelude.{◌≡◌, ◌<◌};
 ghost use Rattle.chacha20.specs.ChaCha20.{rounds, diagonal_round, column_round};
-ghost use Rattle.chacha20.specs.Rows.{flat, sum_row, mix_row, quarter_rows, turned};
+ghost use Rattle.chacha20.specs.Rows.{flat, sum_row, mix_row, quarter_rows, turned_row, turned};
 
-use rotation::rotate32;
-use std::num::wrapping_add_u32;
+use rotation::Rotate;
 
 // a + b in each column.
 pub fn add_rows(a: [u32; 4], b: [u32; 4]) -> [u32; 4]
     ensures { result ≡ sum_row a b }
 {
     [
-        wrapping_add_u32(a[0], b[0]),
-        wrapping_add_u32(a[1], b[1]),
-        wrapping_add_u32(a[2], b[2]),
-        wrapping_add_u32(a[3], b[3]),
+        a[0].wrapping_add(b[0]),
+        a[1].wrapping_add(b[1]),
+        a[2].wrapping_add(b[2]),
+        a[3].wrapping_add(b[3]),
     ]
 }
 
@@ -25,10 +24,10 @@ fn mix_rows(d: [u32; 4], a: [u32; 4], n: u32) -> [u32; 4]
     ensures { result ≡ mix_row n d a }
 {
     [
-        rotate32(d[0] ^ a[0], n),
-        rotate32(d[1] ^ a[1], n),
-        rotate32(d[2] ^ a[2], n),
-        rotate32(d[3] ^ a[3], n),
+        (d[0] ^ a[0]).rotate(n),
+        (d[1] ^ a[1]).rotate(n),
+        (d[2] ^ a[2]).rotate(n),
+        (d[3] ^ a[3]).rotate(n),
     ]
 }
 
@@ -47,47 +46,37 @@ fn quarter_rows(s: [[u32; 4]; 4]) -> [[u32; 4]; 4]
     [a2, b2, c2, d2]
 }
 
-// The diagonals as columns: row i turned left by i words.
-fn to_columns(s: [[u32; 4]; 4]) -> [[u32; 4]; 4]
-    ensures { result ≡ turned 1 2 3 s }
+// A row turned left by n words.
+fn turn(r: [u32; 4], n: usize) -> [u32; 4]
+    requires { n < 4 }
+    ensures { result ≡ turned_row n r }
 {
-    [
-        s[0],
-        [s[1][1], s[1][2], s[1][3], s[1][0]],
-        [s[2][2], s[2][3], s[2][0], s[2][1]],
-        [s[3][3], s[3][0], s[3][1], s[3][2]],
-    ]
+    [r[n], r[(1 + n) % 4], r[(2 + n) % 4], r[(3 + n) % 4]]
 }
 
-// Back: row i turned right by i words.
-fn to_diagonals(s: [[u32; 4]; 4]) -> [[u32; 4]; 4]
-    ensures { result ≡ turned 3 2 1 s }
+// Rows 1, 2 and 3 turned left by a, b and c words.
+fn turn_rows(s: [[u32; 4]; 4], a: usize, b: usize, c: usize) -> [[u32; 4]; 4]
+    requires { (a < 4) × (b < 4) × (c < 4) }
+    ensures { result ≡ turned a b c s }
 {
-    [
-        s[0],
-        [s[1][3], s[1][0], s[1][1], s[1][2]],
-        [s[2][2], s[2][3], s[2][0], s[2][1]],
-        [s[3][1], s[3][2], s[3][3], s[3][0]],
-    ]
+    [s[0], turn(s[1], a), turn(s[2], b), turn(s[3], c)]
 }
 
-// A column round, then a diagonal round.
+// A column round, then a diagonal round: the diagonals as columns, and back.
 fn double_round(s: [[u32; 4]; 4]) -> [[u32; 4]; 4]
     ensures { flat result ≡ diagonal_round (column_round (flat s)) }
 {
-    let t = to_columns(quarter_rows(s));
-    to_diagonals(quarter_rows(t))
+    let t = turn_rows(quarter_rows(s), 1, 2, 3);
+    turn_rows(quarter_rows(t), 3, 2, 1)
 }
 
 pub fn twenty_rounds(s: [[u32; 4]; 4]) -> [[u32; 4]; 4]
     ensures { flat result ≡ rounds 10 (flat s) }
 {
     let mut t = s;
-    let mut i: usize = 0;
-    while i < 10 {
+    for _i in 0..10_usize {
         let u = double_round(t);
         t = u;
-        i += 1;
     }
     t
 }

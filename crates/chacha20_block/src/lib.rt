@@ -7,17 +7,17 @@ ghost use Rattle.chacha20.specs.ChaCha20.{constants, serialised, block as chacha
 ghost use Rattle.chacha20.specs.Rows.{row, flat};
 
 use chacha20::{add_rows, twenty_rounds};
-use words::{load32, store32};
+use words::Word;
 
 fn load_row(s: &[u8], at: usize) -> [u32; 4]
     requires { at + 16 ≤ length s.now }
     ensures { result ≡ words_of 4 4 (part s.now at 16) }
 {
     [
-        load32(s, at),
-        load32(s, at + 4),
-        load32(s, at + 8),
-        load32(s, at + 12),
+        u32::load(s, at),
+        u32::load(s, at + 4),
+        u32::load(s, at + 8),
+        u32::load(s, at + 12),
     ]
 }
 
@@ -25,10 +25,10 @@ fn store_row(out: &mut [u8], at: usize, r: [u32; 4])
     requires { at + 16 ≤ length out.old }
     ensures { out.new ≡ put out.old at (bytes_of 4 (row (λ j. get_or r j 0))) }
 {
-    store32(out, at, r[0]);
-    store32(out, at + 4, r[1]);
-    store32(out, at + 8, r[2]);
-    store32(out, at + 12, r[3]);
+    u32::store(out, at, r[0]);
+    u32::store(out, at + 4, r[1]);
+    u32::store(out, at + 8, r[2]);
+    u32::store(out, at + 12, r[3]);
 }
 
 // The constants, the words of a key's first 32 bytes, and the last row.
@@ -79,9 +79,9 @@ pub fn block(key: &[u8], counter: u32, nonce: &[u8]) -> [u8; 64]
         key,
         [
             counter,
-            load32(nonce, 0),
-            load32(nonce, 4),
-            load32(nonce, 8),
+            u32::load(nonce, 0),
+            u32::load(nonce, 4),
+            u32::load(nonce, 8),
         ],
     );
     row_bytes(rows)

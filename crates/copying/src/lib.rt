@@ -4,7 +4,7 @@
 ghost use Rattle.std.specs.Prelude.{◌≡◌, ◌+◌, ◌*◌, ◌≤◌, length, replicate};
 ghost use Rattle.words.specs.Bytes.{part, put};
 
-use words::{load64, store64};
+use words::Word;
 
 // Copies 16 bytes of src from an index to dst at an index. Both words are read before one is written, so that the compiler
 // moves them as one.
@@ -12,10 +12,10 @@ fn copy_pair(dst: &mut [u8], to: usize, src: &[u8], from: usize)
     requires { (to + 16 ≤ length dst.old) × (from + 16 ≤ length src.now) }
     ensures { dst.new ≡ put dst.old to (part src.now from 16) }
 {
-    let first = load64(src, from);
-    let second = load64(src, from + 8);
-    store64(dst, to, first);
-    store64(dst, to + 8, second);
+    let first = u64::load(src, from);
+    let second = u64::load(src, from + 8);
+    u64::store(dst, to, first);
+    u64::store(dst, to + 8, second);
 }
 
 // The same n times.
@@ -23,10 +23,8 @@ fn copy_pairs(dst: &mut [u8], to: usize, src: &[u8], from: usize, n: usize)
     requires { (to + 16 * n ≤ length dst.old) × (from + 16 * n ≤ length src.now) }
     ensures { dst.new ≡ put dst.old to (part src.now from (16 * n)) }
 {
-    let mut i = 0;
-    while i < n {
+    for i in 0..n {
         copy_pair(dst, to + 16 * i, src, from + 16 * i);
-        i += 1;
     }
 }
 
@@ -35,10 +33,8 @@ fn copy_bytes(dst: &mut [u8], to: usize, src: &[u8], from: usize, n: usize)
     requires { (to + n ≤ length dst.old) × (from + n ≤ length src.now) }
     ensures { dst.new ≡ put dst.old to (part src.now from n) }
 {
-    let mut i = 0;
-    while i < n {
+    for i in 0..n {
         dst[to + i] = src[from + i];
-        i += 1;
     }
 }
 
@@ -51,7 +47,7 @@ fn copy_rest(dst: &mut [u8], to: usize, src: &[u8], from: usize, n: usize)
         copy_bytes(dst, to, src, from, n);
         return;
     }
-    store64(dst, to, load64(src, from));
+    u64::store(dst, to, u64::load(src, from));
     copy_bytes(dst, to + 8, src, from + 8, n - 8);
 }
 
@@ -70,11 +66,7 @@ pub fn fill(s: &mut [u8], at: usize, n: usize, byte: u8)
     requires { at + n ≤ length s.old }
     ensures { s.new ≡ put s.old at (replicate n byte) }
 {
-    let mut i = 0;
-    while i < n {
-        s[at + i] = byte;
-        i += 1;
-    }
+    s[at..at + n].fill(byte);
 }
 
 // Writes n zeros at an index.

@@ -9,13 +9,13 @@ ghost use Rattle.counter.specs.Counter.{
   forward as forward_to,
 };
 
-use words::{load64, store64};
+use words::Word;
 
 pub fn major(block: &[u8]) -> u64
     requires { length block.now ≡ 64 }
     ensures { result ≡ major_of block.now }
 {
-    load64(block, 0)
+    u64::load(block, 0)
 }
 
 // Eight minors take seven bytes. The eight bytes that end with those of minor j's group start one
@@ -24,7 +24,7 @@ pub fn minor(block: &[u8], j: usize) -> u64
     requires { (length block.now ≡ 64) × (j < 64) }
     ensures { result ≡ minor_of block.now j }
 {
-    let w = load64(block, 7 + j / 8 * 7);
+    let w = u64::load(block, 7 + j / 8 * 7);
     (w >> (8 + j % 8 * 7)) % 128
 }
 
@@ -35,10 +35,10 @@ pub fn with_minor(block: &[u8], j: usize, v: u64, out: &mut [u8])
 {
     let at = 7 + j / 8 * 7;
     let bit = 8 + j % 8 * 7;
-    let w = load64(block, at);
+    let w = u64::load(block, at);
     let old = (w >> bit) % 128;
     copying::copy(out, 0, block, 0, 64);
-    store64(out, at, w - (old << bit) + (v << bit));
+    u64::store(out, at, w - (old << bit) + (v << bit));
 }
 
 // The minor s brought forward to a phase.

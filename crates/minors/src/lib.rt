@@ -5,7 +5,7 @@ ghost use Rattle.std.specs.Prelude.{◌≡◌, ℕ, ◌+◌, ◌*◌, ◌^◌, �
 ghost use Rattle.words.specs.Bytes.{number, digits, part, put};
 ghost use Rattle.counter.specs.Counter.{counter_block, minors};
 
-use words::{load64, store64};
+use words::Word;
 
 // Eight digits of base 128 as digits of base 256: the upper half of the digits moves up, then that of each half, then of each quarter.
 fn spread(x: u64) -> u64
@@ -22,11 +22,9 @@ pub fn unpack(block: &[u8], out: &mut [u8])
     requires { (length block.now ≡ 64) × (length out.old ≡ 64) }
     ensures { out.new ≡ minors block.now }
 {
-    let mut g = 0;
-    while g < 8 {
-        let w = load64(block, 7 + 7 * g) / 256;
-        store64(out, 8 * g, spread(w));
-        g += 1;
+    for g in 0..8 {
+        let w = u64::load(block, 7 + 7 * g) / 256;
+        u64::store(out, 8 * g, spread(w));
     }
 }
 
@@ -37,7 +35,7 @@ fn group(minors: &[u8], at: usize) -> u64
     requires by_index { (i : ℕ) → get_or minors.now i 0 < 128 }
     ensures { (result ≡ 128 * number 128 (part minors.now at 8)) × (result < 2 ^ 63) }
 {
-    let bytes = load64(minors, at);
+    let bytes = u64::load(minors, at);
     let quarters = bytes + (bytes & 0x00FF_00FF_00FF_00FF);
     let halves = quarters + (quarters & 0x0000_FFFF_0000_FFFF) * 3;
     halves + (halves & 0x0000_0000_FFFF_FFFF) * 15
@@ -50,11 +48,9 @@ pub fn pack(major: u64, minors: &[u8], at: usize, out: &mut [u8])
     ensures { out.new ≡ put out.old at (counter_block major minors.now) }
 {
     let mut word = major;
-    store64(out, at, word);
-    let mut g = 0;
-    while g < 8 {
+    u64::store(out, at, word);
+    for g in 0..8 {
         word = word / 0x100_0000_0000_0000 + 2 * group(minors, 8 * g);
-        store64(out, at + 7 + 7 * g, word);
-        g += 1;
+        u64::store(out, at + 7 + 7 * g, word);
     }
 }

@@ -7,14 +7,14 @@ ghost use Rattle.chacha20.specs.Rows.{row};
 ghost use Rattle.pad.specs.Pad.{xor_bytes, pad as pad_of};
 
 use chacha20_block::key_rows;
-use words::{load32, store32};
+use words::Word;
 
 // Writes 4 bytes of a text joined with a word of the pad.
 fn join_word(text: &[u8], at: usize, w: u32, out: &mut [u8])
     requires { (at + 4 ≤ length text.now) × (at + 4 ≤ length out.old) }
     ensures { out.new ≡ put out.old at (xor_bytes (part text.now at 4) (to_le 4 w)) }
 {
-    store32(out, at, load32(text, at) ^ w);
+    u32::store(out, at, u32::load(text, at) ^ w);
 }
 
 // Writes 16 bytes of a text joined with a row of the pad.

@@ -4,7 +4,7 @@ use mathlib.Core.Path.{◌≡◌, refl, sym, ap, ◌∙◌, subst₂}
 use mathlib.Core.Logic.{◌⊎◌, inl, inr}
 use mathlib.Core.Bool.{Bool, cond}
 use mathlib.Core.List.{List, [], ◌∷◌}
-use Prim.Native.Nat.{ℕ, ◌+◌, ◌<◌, ◌≤◌, zero-le}
+use Prim.Native.Nat.{ℕ, ◌+◌, ◌<◌, ◌≤◌, zero-le, min, max}
 use native.Mathlib.Nat.{add_comm}
 use native.Mathlib.Omega.{arith}
 use borrow.Author.Tests.{lt-ltb, le-ltb}
@@ -135,12 +135,27 @@ stored o₀ o₁ o₂ o₃ o₄ v w x y room a b c d =
     d ∙ ap (λ (o : List ℕ). put o 24 (to_le 8 y)) third ∙ put_word 8 o₀ 0 (v ∷ w ∷ x ∷ []) y (omega arith)
     ∙ put_all o₀ (bytes_of 8 (v ∷ w ∷ x ∷ y ∷ [])) (length-bytes 8 (v ∷ w ∷ x ∷ y ∷ []) ∙ sym room)
 
-pub merged-of : (a b c d : ℕ) {low high v w x y : ℕ} → low ≡ larger a c → high ≡ smaller b d → v ≡ smaller a c → w ≡ smaller low high
-    → x ≡ larger low high → y ≡ larger b d → v ∷ w ∷ x ∷ y ∷ [] ≡ merged a b c d
-unfolding merged
-merged-of a b c d e f v w x y = rw (v, w, x, y, e, f)
+-- `u64::min` and `u64::max` are the definitions' two
+pub min-smaller : (a b : ℕ) → min a b ≡ smaller a b
+min-smaller a b = go (lt-or-ge a b)
+  where
+    go : (a < b) ⊎ (b ≤ a) → min a b ≡ smaller a b
+    go (inl p) = omega (arith, smaller-first p)
+    go (inr p) = omega (arith, smaller-second p)
 
-pub rising-of : (a b c d : ℕ) {v w x y : ℕ} → v ≡ smaller a b → w ≡ larger a b → x ≡ smaller c d → y ≡ larger c d
+pub max-larger : (a b : ℕ) → max a b ≡ larger a b
+max-larger a b = go (lt-or-ge a b)
+  where
+    go : (a < b) ⊎ (b ≤ a) → max a b ≡ larger a b
+    go (inl p) = omega (arith, larger-second p)
+    go (inr p) = omega (arith, larger-first p)
+
+pub merged-of : (a b c d : ℕ) {low high v w x y : ℕ} → low ≡ max a c → high ≡ min b d → v ≡ min a c → w ≡ min low high
+    → x ≡ max low high → y ≡ max b d → v ∷ w ∷ x ∷ y ∷ [] ≡ merged a b c d
+unfolding merged
+merged-of a b c d e f v w x y = rw (v, w, x, y, e, f) (simp (min-smaller, max-larger))
+
+pub rising-of : (a b c d : ℕ) {v w x y : ℕ} → v ≡ min a b → w ≡ max a b → x ≡ min c d → y ≡ max c d
     → merged v w x y ≡ rising a b c d
 unfolding rising
-rising-of a b c d v w x y = rw (v, w, x, y)
+rising-of a b c d v w x y = rw (v, w, x, y) (simp (min-smaller, max-larger))

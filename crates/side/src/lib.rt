@@ -5,6 +5,8 @@ ghost use Rattle.std.specs.Prelude.{◌≡◌, length};
 ghost use Rattle.words.specs.Bytes.{from_le};
 ghost use Rattle.side.specs.Side.{side_bytes, side_fits};
 
+use words::Word;
+
 // The side bytes of a content, 64 bytes, as one word.
 pub fn word(family: u64, keys: &[u8], content: &[u8], line: u64, major: u64, minor: u64) -> u64
     requires { (length keys.now ≡ 48) × (length content.now ≡ 64) }
@@ -22,5 +24,5 @@ pub fn matches(family: u64, keys: &[u8], cell: &[u8], line: u64, major: u64, min
     requires { (length keys.now ≡ 48) × (length cell.now ≡ 72) }
     ensures { result ≡ side_fits family keys.now cell.now line major minor }
 {
-    words::load64(cell, 64) == word(family, keys, &cell[0..64], line, major, minor)
+    u64::load(cell, 64) == word(family, keys, &cell[0..64], line, major, minor)
 }

@@ -4,21 +4,20 @@
 ghost use Rattle.std.specs.Prelude.{◌≡◌};
 ghost use Rattle.siphash.specs.SipHash.{sip_round, initial, compress as compressed, finalize as finalized};
 
-use rotation::rotate64;
-use std::num::wrapping_add_u64;
+use rotation::Rotate;
 
 fn sip_round(v: [u64; 4]) -> [u64; 4]
     ensures { result ≡ sip_round v }
 {
-    let v0 = wrapping_add_u64(v[0], v[1]);
-    let v2 = wrapping_add_u64(v[2], v[3]);
-    let v1 = rotate64(v[1], 13) ^ v0;
-    let v3 = rotate64(v[3], 16) ^ v2;
-    let w2 = wrapping_add_u64(v2, v1);
-    let w0 = wrapping_add_u64(rotate64(v0, 32), v3);
-    let w1 = rotate64(v1, 17) ^ w2;
-    let w3 = rotate64(v3, 21) ^ w0;
-    [w0, w1, rotate64(w2, 32), w3]
+    let v0 = v[0].wrapping_add(v[1]);
+    let v2 = v[2].wrapping_add(v[3]);
+    let v1 = v[1].rotate(13) ^ v0;
+    let v3 = v[3].rotate(16) ^ v2;
+    let w2 = v2.wrapping_add(v1);
+    let w0 = v0.rotate(32).wrapping_add(v3);
+    let w1 = v1.rotate(17) ^ w2;
+    let w3 = v3.rotate(21) ^ w0;
+    [w0, w1, w2.rotate(32), w3]
 }
 
 // The state of a key's two words.

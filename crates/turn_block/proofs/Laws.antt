@@ -3,7 +3,7 @@ use mathlib.Core.Path.{◌≡◌, refl, sym, ap, ◌∙◌, subst}
 use mathlib.Core.Logic.{◌⊎◌, inl, inr}
 use mathlib.Core.Bool.{Bool, cond}
 use mathlib.Core.List.{List, [], ◌∷◌, map, Memᴰ}
-use Prim.Native.Nat.{ℕ, suc, ◌+◌, ◌*◌, ◌/◌, ◌%◌, ◌^◌, ◌<◌}
+use Prim.Native.Nat.{ℕ, suc, ◌+◌, ◌*◌, ◌/◌, ◌%◌, ◌^◌, ◌<◌, min}
 use native.Mathlib.Omega.{arith}
 use borrow.Author.Tests.{eq-eqb, ne_eqb}
 use lib.Dec.{lit<}
@@ -31,6 +31,13 @@ pub turned_lt : (s : ℕ) → turned_minor s < 2
 turned_lt s = go (eq-or-not s 0)
   where
     go : (s ≡ 0) ⊎ (s ≡ 0 → ⊥) → turned_minor s < 2
+    go (inl e) = omega (arith, turned_none s e)
+    go (inr p) = omega (arith, turned-some s p)
+
+pub turned-min : (s : ℕ) → min s 1 ≡ turned_minor s
+turned-min s = go (eq-or-not s 0)
+  where
+    go : (s ≡ 0) ⊎ (s ≡ 0 → ⊥) → min s 1 ≡ turned_minor s
     go (inl e) = omega (arith, turned_none s e)
     go (inr p) = omega (arith, turned-some s p)
 

@@ -8,7 +8,7 @@ ghost use Rattle.counter.specs.Counter.{counter_block, written_from, turned_mino
 fn turned_minor(minor: u8) -> u8
     ensures { (result ≡ turned_minor minor) × (result < 2) }
 {
-    if minor == 0 { 0 } else { 1 }
+    minor.min(1)
 }
 
 // The number whose set bits are the places of written lines.
@@ -16,11 +16,9 @@ pub fn written_mask(minors: &[u8]) -> u64
     requires { length minors.now ≡ 64 }
     ensures { set_bits result ≡ written_from 0 minors.now }
 {
-    let mut mask: u64 = 0;
-    let mut j = 64;
-    while j > 0 {
-        j -= 1;
-        mask = mask * 2 + turned_minor(minors[j]) as u64;
+    let mut mask = 0;
+    for j in (0..64).rev() {
+        mask = mask * 2 + u64::from(turned_minor(minors[j]));
     }
     mask
 }
@@ -29,10 +27,8 @@ fn turn_minors(minors: &[u8], out: &mut [u8])
     requires { (length minors.now ≡ 64) × (length out.old ≡ 64) }
     ensures { out.new ≡ map turned_minor minors.now }
 {
-    let mut j = 0;
-    while j < 64 {
+    for j in 0..64 {
         out[j] = turned_minor(minors[j]);
-        j += 1;
     }
 }
 

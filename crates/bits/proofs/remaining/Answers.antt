@@ -1,7 +1,6 @@
 -- `bits::remaining` meets its contract. Assumes nothing.
-use mathlib.Core.Path.{◌∙◌}
 use Rattle.bits.proofs.Laws.{count_bits}
 use Rattle.bits.proofs.remaining.Goals as goal
 
 pub returns : goal.returns
-returns c = c.wide.ensures ∙ count_bits c.args.mask c.ranges.mask.fits
+returns c = count_bits c.args.mask c.ranges.mask.fits

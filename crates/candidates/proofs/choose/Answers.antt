@@ -1,13 +1,12 @@
 -- `candidates::choose` meets its contract: the candidates passed have come to the choice so far. Assumes nothing.
 use mathlib.Core.Path.{sym, ◌∙◌}
-use Prim.Native.Nat.{◌-◌}
 use native.Mathlib.Omega.{arith}
 use lib.Seq.{length-take-le}
 use Rattle.candidates.proofs.Laws.{Lent, hash-candidate, choosing-first, choosing-next, choosing-end}
 use Rattle.candidates.proofs.choose.Goals as goal
 
 pub loop-k-init : goal.loop-k-init
-loop-k-init c = (omega arith, choosing-first _ _ _ _ _)
+loop-k-init c = choosing-first _ _ _ _ _
 
 pub loop-k-preserved : goal.loop-k-preserved
 loop-k-preserved c =
@@ -17,13 +16,10 @@ loop-k-preserved c =
       full = length-take-le 64 c.args.cell.now (omega (arith, c.requires.1.0));
       line_word = c.ranges.line.fits;
       major-word = c.ranges.major.fits;
-    } in (
-      omega arith,
-      c.loop-k.invariant.1
-          ∙ choosing-next _ c.args.minor c.loop-k.k (omega (arith, c.loop-k-test.true)) c.loop-k.chosen
-          (c.with_candidate-next.ensures
-          ∙ hash-candidate lent c.data_state-state.ensures c.loop-k.chosen _ (omega arith)),
-    )
+    } in
+    c.loop-k.invariant
+    ∙ choosing-next _ c.args.minor c.loop-k.k (omega (arith, c.loop-k-test.true)) c.loop-k.chosen
+    (c.with_candidate-chosen.ensures ∙ hash-candidate lent c.data_state-state.ensures c.loop-k.chosen _ (omega arith))
 
 pub returns : goal.returns
-returns c = sym (c.loop-k.invariant.1 ∙ choosing-end _ c.loop-k.k (omega (arith, c.loop-k-test.false)) c.loop-k.chosen _)
+returns c = sym (c.loop-k.invariant ∙ choosing-end _ c.loop-k.k (omega (arith, c.loop-k-test.false)) c.loop-k.chosen _)

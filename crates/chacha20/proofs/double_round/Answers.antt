@@ -6,6 +6,6 @@ use Rattle.chacha20.proofs.double_round.Goals as goal
 
 pub returns : goal.returns
 returns c =
-    let first = c.to_columns-t.ensures ∙ ap (turned 1 2 3) c.quarter_rows.ensures in
-    ap flat (c.to_diagonals.ensures ∙ ap (turned 3 2 1) (c.quarter_rows-2.ensures ∙ ap quarter_rows first))
+    let first = c.turn_rows-t.ensures ∙ ap (turned 1 2 3) c.quarter_rows.ensures in
+    ap flat (c.turn_rows.ensures ∙ ap (turned 3 2 1) (c.quarter_rows-2.ensures ∙ ap quarter_rows first))
     ∙ rounds-flat c.args.s

@@ -7,8 +7,8 @@ pub returns : goal.returns
 unfolding mix_row
 returns c =
     λ i.
-    c.rotate32.ensures i
-    ∷ c.rotate32-2.ensures i
-    ∷ c.rotate32-3.ensures i
-    ∷ c.rotate32-4.ensures i
+    c.rotate.ensures i
+    ∷ c.rotate-2.ensures i
+    ∷ c.rotate-3.ensures i
+    ∷ c.rotate-4.ensures i
     ∷ []

@@ -12,9 +12,9 @@ unfolding start block
 returns c =
     let words =
     (λ i.
-    c.load32.ensures i
-    ∷ c.load32-2.ensures i
-    ∷ c.load32-3.ensures i
+    c.load.ensures i
+    ∷ c.load-2.ensures i
+    ∷ c.load-3.ensures i
     ∷ [])
     ∙ three-at c.args.nonce.now in
     c.row_bytes.ensures ∙ c.key_rows-rows.ensures

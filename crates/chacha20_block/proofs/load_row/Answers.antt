@@ -7,9 +7,9 @@ use Rattle.chacha20_block.proofs.load_row.Goals as goal
 pub returns : goal.returns
 returns c =
     (λ i.
-    c.load32.ensures i
-    ∷ c.load32-2.ensures i
-    ∷ c.load32-3.ensures i
-    ∷ c.load32-4.ensures i
+    c.load.ensures i
+    ∷ c.load-2.ensures i
+    ∷ c.load-3.ensures i
+    ∷ c.load-4.ensures i
     ∷ [])
     ∙ row_at c.args.s.now c.args.at

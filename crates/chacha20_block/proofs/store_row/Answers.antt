@@ -5,7 +5,7 @@ use Rattle.chacha20_block.proofs.store_row.Goals as goal
 pub returns : goal.returns
 returns c =
     put-row c.args.out.now c.args.at c.args.r c.requires
-    c.store32.ensures
-    c.store32-2.ensures
-    c.store32-3.ensures
-    c.store32-4.ensures
+    c.store.ensures
+    c.store-2.ensures
+    c.store-3.ensures
+    c.store-4.ensures

@@ -1,11 +1,6 @@
-use mathlib.Core.Path.{◌≡◌}
-use Prim.Native.Nat.{◌*◌, ◌-◌, ◌≤◌}
-use lib.ListN.{length}
+use Rattle.std.proofs.Common.{◌≡◌, ◌*◌}
 use Rattle.words.specs.Bytes.{part, put}
 use Rattle.copying.proofs.copy_pairs.Given as goal
 
 abbrev pub invariant-loop-i : goal.invariant-loop-i
-invariant-loop-i l = (l.i ≤ l.n) × ((l.dst ≡ put l.initial.dst l.to (part l.src l.from (16 * l.i))) × (length l.dst ≡ length l.initial.dst))
-
-abbrev pub decreases-loop-i : goal.decreases-loop-i
-decreases-loop-i l = l.n - l.i
+invariant-loop-i l = l.dst ≡ put l.initial.dst l.to (part l.src l.from (16 * l.i))

@@ -4,4 +4,4 @@ use Rattle.counter.proofs.major.Goals as goal
 
 pub returns : goal.returns
 unfolding major
-returns c = c.load64.ensures
+returns c = c.load.ensures

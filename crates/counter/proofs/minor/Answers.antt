@@ -6,5 +6,5 @@ use Rattle.counter.proofs.minor.Goals as goal
 
 pub returns : goal.returns
 returns c =
-    ap (λ (w : ℕ). w / 2 ^ (8 + c.args.j % 8 * 7) % 128) c.load64-w.ensures
+    ap (λ (w : ℕ). w / 2 ^ (8 + c.args.j % 8 * 7) % 128) c.load-w.ensures
     ∙ minor-word c.args.block.now c.args.j (record { at = λ i. (c.type_inv.block i).fits }) c.requires.1

@@ -12,7 +12,7 @@ use Rattle.minors.proofs.group.Goals as goal
 -- the last sum, and so all before it
 pub overflow_add-result : goal.overflow_add-result
 overflow_add-result c =
-    let bytes : Word (number 128 (part c.args.minors.now c.args.at 8)) c.load64-bytes.result = word c.args.minors.now c.args.at c.requires.at_in_bounds (record { at = c.requires.by_index }) c.load64-bytes.ensures in
+    let bytes : Word (number 128 (part c.args.minors.now c.args.at 8)) c.load-bytes.result = word c.args.minors.now c.args.at c.requires.at_in_bounds (record { at = c.requires.by_index }) c.load-bytes.ensures in
     record {
       fits = sum_lt (2 ^ 63 + 2 ^ 57) (2 ^ 64) _ _ _ _
           (sum_lt (2 ^ 63 + 2 ^ 56) (2 ^ 63 + 2 ^ 57) _ _ _ _
@@ -33,7 +33,7 @@ overflow_mul-result c = omega (arith, overflow_add-result c)
 
 pub returns : goal.returns
 returns c =
-    let bytes : Word (number 128 (part c.args.minors.now c.args.at 8)) c.load64-bytes.result = word c.args.minors.now c.args.at c.requires.at_in_bounds (record { at = c.requires.by_index }) c.load64-bytes.ensures in
+    let bytes : Word (number 128 (part c.args.minors.now c.args.at 8)) c.load-bytes.result = word c.args.minors.now c.args.at c.requires.at_in_bounds (record { at = c.requires.by_index }) c.load-bytes.ensures in
     let w = bytes in
     let x = number 128 (part c.args.minors.now c.args.at 8) in
     let whole =

@@ -6,7 +6,7 @@ use Rattle.pad.proofs.join_word.Goals as goal
 
 pub returns : goal.returns
 returns c =
-    c.store32.ensures
+    c.store.ensures
     ∙ ap (put c.args.out.now c.args.at)
     (xor-word 4 c.args.text.now c.args.at c.args.w c.requires.0 (record { at = λ i. (c.type_inv.text i).fits })
-    c.ranges.w.fits c.load32.ensures)
+    c.ranges.w.fits c.load.ensures)

@@ -8,5 +8,5 @@ pub returns : goal.returns
 returns c =
     c.put_merged.ensures
     ∙ ap (bytes_of 8)
-    (rising-of c.args.a c.args.b c.args.c c.args.d c.smaller.ensures c.larger.ensures c.smaller-2.ensures
-    c.larger-2.ensures)
+    (rising-of c.args.a c.args.b c.args.c c.args.d c.min.ensures c.max.ensures c.min-2.ensures
+    c.max-2.ensures)

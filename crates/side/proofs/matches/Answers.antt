@@ -6,4 +6,4 @@ use Rattle.side.proofs.matches.Goals as goal
 
 pub returns : goal.returns
 unfolding side_fits
-returns c = ap₂ eqb c.load64.ensures c.word.ensures
+returns c = ap₂ eqb c.load.ensures c.word.ensures

@@ -11,7 +11,7 @@ use Rattle.siphash_message.proofs.hash.Goals as goal
 
 pub returns : goal.returns
 returns c =
-    let key = ap₂ initial c.load64.ensures c.load64-2.ensures in
+    let key = ap₂ initial c.load.ensures c.load-2.ensures in
     let words = c.absorb-v.ensures ∙ ap (λ (k : List ℕ). compress_all k (words_of 8 (length c.args.message.now / 8) c.args.message.now)) key in
     c.finalize.ensures
     ∙ ap finalize (c.compress.ensures ∙ ap₂ compress words c.last_word.ensures)

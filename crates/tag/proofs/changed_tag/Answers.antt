@@ -12,7 +12,7 @@ use Rattle.tag.proofs.changed_tag.Goals as goal
 pub returns : goal.returns
 returns c =
     let words = set (words_of 8 8 c.args.content.now) c.args.j c.args.x in
-    let key = ap₂ initial c.load64.ensures c.load64-2.ensures in
+    let key = ap₂ initial c.load.ensures c.load-2.ensures in
     let v = c.absorb_changed-v.ensures ∙ ap (λ (k : List ℕ). compress_all k words) key in
     let v1 = c.compress.ensures ∙ ap (λ (w : List ℕ). compress w c.args.level) v in
     let v2 = c.compress-w.ensures ∙ ap (λ (w : List ℕ). compress w c.args.index) v1 in
