@@ -6,7 +6,7 @@ ghost use Rattle.std.specs.Prelude.{◌≡◌, ◌<◌, length};
 ghost use Rattle.control.specs.Control.{control_length};
 ghost use Rattle.batch.specs.Batch.{cell_with, shadow_for, staged};
 
-use words::store64;
+use words::Word;
 
 // Stages cell n of a batch: its number, its content and its side bytes.
 pub fn put_cell(
@@ -22,9 +22,9 @@ pub fn put_cell(
 {
     if (n as u64) < allowance {
         let at = control::PLACES + 80 * n;
-        store64(control, at, number as u64);
+        u64::store(control, at, number as u64);
         copying::copy(control, at + 8, content, 0, 64);
-        store64(control, at + 72, side);
+        u64::store(control, at + 72, side);
     }
 }
 
@@ -35,8 +35,8 @@ pub fn put_shadow(control: &mut [u8], n: usize, allowance: u64, number: usize, o
 {
     if (n as u64) < allowance {
         let at = control::PLACES + 80 * n;
-        store64(control, at, number as u64);
-        store64(control, at + 8, owner);
+        u64::store(control, at, number as u64);
+        u64::store(control, at + 8, owner);
         copying::zero(control, at + 16, 64);
     }
 }

@@ -24,10 +24,10 @@ use Rattle.slot_map.specs.Slots.{cache_length, slot_of, level_of, belongs}
 use Rattle.memory_map.specs.Map.Item.{node}
 use Rattle.slot_map.proofs.Laws.{slot-within, level-slot, belongs-node}
 use Rattle.cache.specs.Cache.{owner, dirty, content, with_slot, empty_cache, cell_content, from, cache_owners, top_slot, stray, any_owner}
-use Rattle.cache.specs.Cache.{missing_top, or_else, bad_slot, flags_formed, is_nothing, formed, holds, current}
+use Rattle.cache.specs.Cache.{missing_top, bad_slot, flags_formed, formed, holds, current}
 use Rattle.cache.proofs.Owners.{place-empty, place-filled, flag-empty, flag-filled}
-use Rattle.cache.specs.declared.Found.{Found}
-use Rattle.cache.specs.declared.Found.TheVariants.{Nothing, At}
+use Rattle.std.specs.Option.{is_none, option_or}
+use Rattle.std.specs.Prelude.{Option, None, Some}
 
 -- ---- a slot's bytes
 
@@ -153,13 +153,13 @@ empty f t = eqb (f t) 0
 abbrev pub flagged : List ℕ → ℕ → Bool
 flagged c t = leb (dirty c t) (cond (eqb (owner c t) 0) 0 1)
 
-stray-all : (h : ℕ) (f : ℕ → ℕ) (s n : ℕ) → is_nothing (stray h s (from f s n)) ≡ all (placed h f) s n
-unfolding stray from is_nothing
+stray-all : (h : ℕ) (f : ℕ → ℕ) (s n : ℕ) → is_none (stray h s (from f s n)) ≡ all (placed h f) s n
+unfolding stray from
 stray-all h f s zero = refl
 stray-all h f s (suc n) = go (placed h f s) (stray-all h f (suc s) n)
   where
-    go : (b : Bool) → is_nothing (stray h (suc s) (from f (suc s) n)) ≡ all (placed h f) (suc s) n
-        → is_nothing (cond b (stray h (suc s) (from f (suc s) n)) (At s)) ≡ (b && all (placed h f) (suc s) n)
+    go : (b : Bool) → is_none (stray h (suc s) (from f (suc s) n)) ≡ all (placed h f) (suc s) n
+        → is_none (cond b (stray h (suc s) (from f (suc s) n)) (Some s)) ≡ (b && all (placed h f) (suc s) n)
     go true e = e
     go false e = refl
 
@@ -184,22 +184,19 @@ get_d-from f s zero i p = absurd (omega arith)
 get_d-from f s (suc n) zero p = ap f (sym (add-zero s))
 get_d-from f s (suc n) (suc i) p = get_d-from f (suc s) n i (omega arith) ∙ ap f (let e : suc s + i ≡ s + suc i = omega arith in e)
 
-both : (a b : Found) → is_nothing (or_else a b) ≡ (is_nothing a && is_nothing b)
-unfolding or_else is_nothing
-both Nothing b = refl
-both (At s) b = refl
+both : (a b : Option ℕ) → is_none (option_or a b) ≡ (is_none a && is_none b)
+both None b = refl
+both (Some s) b = refl
 
-neither : (b : Bool) (s : ℕ) → is_nothing (cond b (At s) Nothing) ≡ not b
-unfolding is_nothing
+neither : (b : Bool) (s : ℕ) → is_none (cond b (Some s) None) ≡ not b
 neither true s = refl
 neither false s = refl
 
-nothing : (a : Found) → is_nothing a ≡ true → a ≡ Nothing
-unfolding is_nothing
-nothing Nothing e = refl
-nothing (At s) e = absurd (false≢true e)
+nothing : (a : Option ℕ) → is_none a ≡ true → a ≡ None
+nothing None e = refl
+nothing (Some s) e = absurd (false≢true e)
 
-pub bad-all : (h : ℕ) (f : ℕ → ℕ) → is_nothing (bad_slot h (from f 0 (slots h)))
+pub bad-all : (h : ℕ) (f : ℕ → ℕ) → is_none (bad_slot h (from f 0 (slots h)))
     ≡ (all (placed h f) 0 (slots h) && not (not (all (empty f) 0 (slots h)) && eqb (f (top_slot h)) 0))
 unfolding bad_slot missing_top
 bad-all h f =
@@ -222,11 +219,10 @@ owned-same {h} o e =
       top = λ z s p. e s p ∙ o.top (sym (e (top_slot h) (slot-within h h 0 (le_refl h))) ∙ z) s p;
     }
 
-pub owned : (h : ℕ) (f : ℕ → ℕ) → bad_slot h (from f 0 (slots h)) ≡ Nothing → Owned h f
-unfolding is_nothing
+pub owned : (h : ℕ) (f : ℕ → ℕ) → bad_slot h (from f 0 (slots h)) ≡ None → Owned h f
 owned h f e =
     let facts = (and-eq-true_iff (all (placed h f) 0 (slots h)) (not (not (all (empty f) 0 (slots h)) && eqb (f (top_slot h)) 0))).0
-    (sym (bad-all h f) ∙ ap is_nothing e) in
+    (sym (bad-all h f) ∙ ap is_none e) in
     record {
       belong = λ s i p q.
           ap (belongs h s) (sym q) ∙ sym (place-filled (f s) (belongs h s (f s)) (λ z. omega arith))
@@ -241,7 +237,7 @@ owned h f e =
     missing true b p q = refl
     missing false b p q = absurd (false≢true (ap not (sym p) ∙ q))
 
-pub not-bad : (h : ℕ) (f : ℕ → ℕ) → Owned h f → bad_slot h (from f 0 (slots h)) ≡ Nothing
+pub not-bad : (h : ℕ) (f : ℕ → ℕ) → Owned h f → bad_slot h (from f 0 (slots h)) ≡ None
 not-bad h f o =
     nothing (bad_slot h (from f 0 (slots h)))
     (bad-all h f ∙ (and-eq-true_iff (all (placed h f) 0 (slots h)) (not (not (all (empty f) 0 (slots h)) && eqb (f (top_slot h)) 0))).1
@@ -268,7 +264,7 @@ pub record Formed (h : ℕ) (c : List ℕ) : Type 0 where
 pub formed-facts : (h : ℕ) (c : List ℕ) → formed h c ≡ true → Formed h c
 unfolding formed
 formed-facts h c e =
-    let facts = (and-eq-true_iff (is_nothing (bad_slot h (cache_owners h c))) (flags_formed c 0 (slots h))).0 e in
+    let facts = (and-eq-true_iff (is_none (bad_slot h (cache_owners h c))) (flags_formed c 0 (slots h))).0 e in
     let flags = all-at (flagged c) 0 (slots h) (sym (flags-all c 0 (slots h)) ∙ facts.1) in
     record {
       owners = owned h (owner c) (nothing (bad_slot h (cache_owners h c)) facts.0);
@@ -281,10 +277,10 @@ formed-facts h c e =
     few (suc i) d q = leb-true d 1 (sym (flag-filled (suc i) d (λ z. omega arith)) ∙ q)
 
 pub facts-formed : (h : ℕ) (c : List ℕ) → Formed h c → formed h c ≡ true
-unfolding formed is_nothing
+unfolding formed
 facts-formed h c f =
-    (and-eq-true_iff (is_nothing (bad_slot h (cache_owners h c))) (flags_formed c 0 (slots h))).1 (
-      ap is_nothing (not-bad h (owner c) f.owners),
+    (and-eq-true_iff (is_none (bad_slot h (cache_owners h c))) (flags_formed c 0 (slots h))).1 (
+      ap is_none (not-bad h (owner c) f.owners),
       flags-all c 0 (slots h) ∙ at_all (flagged c) 0 (slots h) (λ t l u. fine t (rw zero-add at u) (owner c t) refl),
     )
   where

@@ -196,13 +196,16 @@ module _ (h : ℕ) (c : List ℕ) where
       shift true b x = refl
       shift false b x = refl
 
-  -- the levels above l
-  pub level-turn : (l : ℕ) (b : Bool) → l < h → b ≡ all_fit (l + 1) (nodes h (l + 1)) c (2 + 2 * (l + 1)) 2
-      → levels l (h - l) ≡ (b && levels (l + 1) (h - (l + 1)))
-  level-turn l b p e =
-      let left : h - l ≡ suc (h - (l + 1)) = omega arith in
-      ap (levels l) left ∙ ap (λ (k : ℕ). all_fit k (nodes h k) c (2 + 2 * k) 2 && levels k (h - (l + 1))) (sym (add-one l))
-      ∙ ap (λ (t : Bool). t && levels (l + 1) (h - (l + 1))) (sym e)
+  -- the levels from l on, which is not 0
+  pub level-turn : (l : ℕ) (b : Bool) → 1 ≤ l → l ≤ h → b ≡ all_fit l (nodes h l) c (2 + 2 * l) 2
+      → levels (l - 1) (h + 1 - l) ≡ (b && levels (l + 1 - 1) (h + 1 - (l + 1)))
+  level-turn l b p q e =
+      let left : h + 1 - l ≡ suc (h - l) = omega arith in
+      let here : suc (l - 1) ≡ l = omega arith in
+      let next : l ≡ l + 1 - 1 = omega arith in
+      let rest : h - l ≡ h + 1 - (l + 1) = omega arith in
+      ap (levels (l - 1)) left ∙ ap (λ (k : ℕ). all_fit k (nodes h k) c (2 + 2 * k) 2 && levels k (h - l)) here
+      ∙ ap (λ (t : Bool). t && levels l (h - l)) (sym e) ∙ ap₂ (λ (k j : ℕ). b && levels k j) next rest
 
-  pub level-end : (l : ℕ) → h ≤ l → levels l (h - l) ≡ true
-  level-end l p = ap (levels l) (let none : h - l ≡ 0 = omega arith in none)
+  pub level-end : (l : ℕ) → h < l → levels (l - 1) (h + 1 - l) ≡ true
+  level-end l p = ap (levels (l - 1)) (let none : h + 1 - l ≡ 0 = omega arith in none)

@@ -5,8 +5,8 @@ use Rattle.words.specs.Bytes.{from_le, to_le, part, put}
 use Rattle.memory_map.specs.Map.{slots, cell_of}
 use Rattle.slot_map.specs.Slots.{cache_length, slot_of, belongs}
 use Rattle.memory_map.specs.Map.Item.{node, shadow}
-use Rattle.cache.specs.declared.Found.{Found}
-use Rattle.cache.specs.declared.Found.TheVariants.{Nothing, At}
+use Rattle.std.specs.Option.{is_none, option_or}
+use Rattle.std.specs.Prelude.{Option, None, Some}
 
 -- Slots: owner (0: empty, else index + 1), dirty, content
 
@@ -56,38 +56,29 @@ abbrev pub top_slot : ℕ → ℕ
 top_slot h = slot_of h 0
 
 -- the first slot from s on whose owner is not 0 and does not belong there
-unfoldable pub stray : ℕ → ℕ → List ℕ → Found
-stray h s [] = Nothing
-stray h s (o ∷ os) = cond (eqb o 0 || belongs h s o) (stray h (suc s) os) (At s)
+unfoldable pub stray : ℕ → ℕ → List ℕ → Option ℕ
+stray h s [] = None
+stray h s (o ∷ os) = cond (eqb o 0 || belongs h s o) (stray h (suc s) os) (Some s)
 
 unfoldable pub any_owner : List ℕ → Bool
 any_owner [] = false
 any_owner (o ∷ os) = not (eqb o 0) || any_owner os
 
 -- the top's slot where it is empty and another is filled
-unfoldable pub missing_top : ℕ → List ℕ → Found
-missing_top h os = cond (any_owner os && eqb (get_or os (top_slot h) 0) 0) (At (top_slot h)) Nothing
-
--- what the first search finds, else what the second does
-unfoldable pub or_else : Found → Found → Found
-or_else Nothing g = g
-or_else (At s) g = At s
+unfoldable pub missing_top : ℕ → List ℕ → Option ℕ
+missing_top h os = cond (any_owner os && eqb (get_or os (top_slot h) 0) 0) (Some (top_slot h)) None
 
 -- the slot that keeps owners from being formed: the first stray one, else the top's
-unfoldable pub bad_slot : ℕ → List ℕ → Found
-bad_slot h os = or_else (stray h 0 os) (missing_top h os)
+unfoldable pub bad_slot : ℕ → List ℕ → Option ℕ
+bad_slot h os = option_or (stray h 0 os) (missing_top h os)
 
 -- dirty is 0 or 1, and 0 in an empty slot, from slot s on, n of them
 unfoldable pub flags_formed : List ℕ → ℕ → ℕ → Bool
 flags_formed c s zero = true
 flags_formed c s (suc n) = leb (dirty c s) (cond (eqb (owner c s) 0) 0 1) && flags_formed c (suc s) n
 
-unfoldable pub is_nothing : Found → Bool
-is_nothing Nothing = true
-is_nothing (At s) = false
-
 unfoldable pub formed : ℕ → List ℕ → Bool
-formed h c = is_nothing (bad_slot h (cache_owners h c)) && flags_formed c 0 (slots h)
+formed h c = is_none (bad_slot h (cache_owners h c)) && flags_formed c 0 (slots h)
 
 -- A counter block or node is the cache's where a slot holds it, else the array's
 

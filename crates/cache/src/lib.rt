@@ -7,21 +7,14 @@ ghost use Rattle.cache.specs.Cache.{from, any_owner, owner as owner_of, dirty as
 ghost use Rattle.cache.specs.Fits.{fits, all_fit};
 
 use memory_map::slots;
-use words::load64;
-
-// What a search over slots finds.
-#[derive(Drop)]
-pub enum Found {
-    Nothing,
-    At(usize),
-}
+use words::Word;
 
 // The owner of a slot: 0 where it is empty, else an index + 1.
 pub fn owner(cache: &[u8], s: usize) -> u64
     requires { 73 * s + 73 ≤ length cache.now }
     ensures { result ≡ owner_of cache.now s }
 {
-    load64(cache, 73 * s)
+    u64::load(cache, 73 * s)
 }
 
 pub fn dirty(cache: &[u8], s: usize) -> u8
@@ -55,12 +48,10 @@ fn slots_fit(cache: &[u8], l: usize, nodes: usize, first: usize, n: usize) -> bo
     requires { (l ≤ 3) × ((n ≤ 4) × (73 * (first + n) ≤ length cache.now)) }
     ensures { result ≡ all_fit l nodes cache.now first n }
 {
-    let mut k = 0;
-    while k < n {
+    for k in 0..n {
         if !slot_fits(cache, l, nodes, first + k) {
             return false;
         }
-        k += 1;
     }
     true
 }
@@ -70,12 +61,10 @@ fn all_empty(cache: &[u8], n: usize) -> bool
     requires { 73 * n ≤ length cache.now }
     ensures { result ≡ not (any_owner (from (owner_of cache.now) 0 n)) }
 {
-    let mut s = 0;
-    while s < n {
+    for s in 0..n {
         if owner(cache, s) != 0 {
             return false;
         }
-        s += 1;
     }
     true
 }
@@ -88,9 +77,7 @@ pub fn formed(h: usize, cache: &[u8]) -> bool
     if !slots_fit(cache, 0, memory_map::nodes(h, 0), 0, 4) {
         return false;
     }
-    let mut l = 0;
-    while l < h {
-        l += 1;
+    for l in 1..h + 1 {
         if !slots_fit(cache, l, memory_map::nodes(h, l), 2 + 2 * l, 2) {
             return false;
         }

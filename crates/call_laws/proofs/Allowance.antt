@@ -15,8 +15,7 @@ use Rattle.answer.specs.declared.Answer.TheVariants.{Done, Blank, Cut, Refused}
 use Rattle.answer.specs.Answer.{stores_of}
 use Rattle.counter.specs.Counter.{major}
 use Rattle.control.specs.Control.{Cell, family, depth, root}
-use Rattle.cache.specs.declared.Found.{Found}
-use Rattle.cache.specs.declared.Found.TheVariants.{Nothing, At}
+use Rattle.std.specs.Prelude.{Option, None, Some}
 use Rattle.cache.specs.Cache.{shadow_owners, current, bad_slot, empty_cache}
 use Rattle.tag.specs.Tag.{node_tag}
 use Rattle.journal.specs.Journal.{Store, store_all, pending_stores, batch_stores}
@@ -163,14 +162,14 @@ module _ (keys : List ℕ) (line : ℕ) (m : Module) where
 -- ---- turn
 
 module _ (keys : List ℕ) (p : ℕ) (m : Module) where
-  turn-checked : (c : List ℕ) (x : List Cell) (f : Found) → Limited (λ a. turn_checked keys p a m c x f)
+  turn-checked : (c : List ℕ) (x : List Cell) (f : Option ℕ) → Limited (λ a. turn_checked keys p a m c x f)
   unfolding turn_checked stores_of
-  turn-checked c x (At n) = refused-limited m 25 n 0
-  turn-checked c x Nothing =
+  turn-checked c x (Some n) = refused-limited m 25 n 0
+  turn-checked c x None =
       let xs = stores_for (turn_batches keys p m c x) in
       stored-limited m xs (Done (length xs) 0) (turned_cache (depth m.control) keys c p) refl (done-not (length xs) 0)
 
-  turn-worn : (b : Bool) (c : List ℕ) (x : List Cell) (f : Found) → Limited (λ a. cond b (refuse m 31 0 0) (turn_checked keys p a m c x f))
+  turn-worn : (b : Bool) (c : List ℕ) (x : List Cell) (f : Option ℕ) → Limited (λ a. cond b (refuse m 31 0 0) (turn_checked keys p a m c x f))
   turn-worn true c x f = refused-limited m 31 0 0
   turn-worn false c x f = turn-checked c x f
 
@@ -216,10 +215,10 @@ module _ (keys : List ℕ) (k : ℕ) (m : Module) where
       tells-root (eqb (node_tag keys (current h m.array c h 0) h 0) (root m.control)) sum
       (record { array = m.array; control = m.control; cache = c })
 
-  tells-shadow : (os : List ℕ) (f : Found) → Tells (recover_shadow keys k m os f)
+  tells-shadow : (os : List ℕ) (f : Option ℕ) → Tells (recover_shadow keys k m os f)
   unfolding recover_shadow
-  tells-shadow os (At s) = tells-refused 27 s
-  tells-shadow os Nothing =
+  tells-shadow os (Some s) = tells-refused 27 s
+  tells-shadow os None =
       tells-rebuilt os (rebuild_blocks (depth m.control) keys (media_of m) 0 (take 4 os) (empty_cache (depth m.control)) 0)
 
   tells-media : Tells (recover_media keys k m)

@@ -16,8 +16,7 @@ use Rattle.counter.proofs.Laws.{length-counter_block, below-counter_block}
 use Rattle.tag.specs.Tag.{node_tag}
 use Rattle.control.specs.Control.{family, depth, root}
 use Rattle.control.proofs.Laws.{same-depth, same-family, valid-parts}
-use Rattle.cache.specs.declared.Found.{Found}
-use Rattle.cache.specs.declared.Found.TheVariants.{Nothing, At}
+use Rattle.std.specs.Prelude.{Option, None, Some}
 use Rattle.cache.specs.Cache.{from, with_slot, empty_cache, cell_content, shadow_owners, bad_slot, current}
 use Rattle.cache.proofs.Laws.{length-with, below-with, length-empty, below-empty}
 use Rattle.journal.specs.Journal.{Store, Media, store_all, made, is_cut, pending_stores}
@@ -131,10 +130,10 @@ module _ (keys : List ℕ) (k : ℕ) (m : Module) (b : Bytes m) (sized : length 
       root_kept sum (rebuild_nodes h keys m.array 4 (drop 4 os) d)
       (nodes-plain h keys (media_of m) 4 (drop 4 os) d (omega (arith, length-drop 4 os)) p)
 
-  shadow-call : (os : List ℕ) → length os ≡ slots h → (f : Found) → Kept m (recover_shadow keys k m os f).after
+  shadow-call : (os : List ℕ) → length os ≡ slots h → (f : Option ℕ) → Kept m (recover_shadow keys k m os f).after
   unfolding recover_shadow slots
-  shadow-call os e (At s) = kept_same m b
-  shadow-call os e Nothing =
+  shadow-call os e (Some s) = kept_same m b
+  shadow-call os e None =
       rebuilt-call os e (rebuild_blocks h keys (media_of m) 0 (take 4 os) (empty_cache h) 0)
       (blocks-plain h keys (media_of m) 0 (take 4 os) (empty_cache h) 0 (omega (arith, length-take 4 os)) (empty-plain h))
 

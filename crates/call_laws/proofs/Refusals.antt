@@ -12,8 +12,7 @@ use Rattle.answer.specs.declared.Answer.{Answer}
 use Rattle.answer.specs.declared.Answer.TheVariants.{Done, Blank, Cut, Refused}
 use Rattle.control.specs.Control.{family, depth, root}
 use Rattle.cache.specs.Cache.{shadow_owners, bad_slot, current}
-use Rattle.cache.specs.declared.Found.{Found}
-use Rattle.cache.specs.declared.Found.TheVariants.{Nothing, At}
+use Rattle.std.specs.Prelude.{Option, None, Some}
 use Rattle.journal.specs.Journal.{pending_stores, made, is_cut}
 use Rattle.calls.specs.Call.{Module, Called, media_of}
 use Rattle.calls.specs.Recovery.{Forwarded, so_far, failed, source_of, refuse_after, recover_root, recover_rebuilt, recover_shadow}
@@ -74,10 +73,10 @@ module _ (keys : List ℕ) (k : ℕ) (m : Module) where
   rebuilt-number os (so_far d sum) e = root-number sum _
   rebuilt-number os (failed n x) e = inr (inr e)
 
-  shadow-number : (os : List ℕ) (x : Found) → Numbered (recover_shadow keys k m os x)
+  shadow-number : (os : List ℕ) (x : Option ℕ) → Numbered (recover_shadow keys k m os x)
   unfolding recover_shadow NumberIs
-  shadow-number os (At s) = inl (lit≤ tt)
-  shadow-number os Nothing =
+  shadow-number os (Some s) = inl (lit≤ tt)
+  shadow-number os None =
       rebuilt-number os _
       (blocks_end (StepRefusal f) h keys (media_of m) (λ ma. line_step_lem (source_of keys (media_of m) ma)) _ _ _ _)
 

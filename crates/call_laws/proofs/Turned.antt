@@ -12,8 +12,7 @@ use Rattle.bits.proofs.Climbs.{climbs-length}
 use Rattle.counter.specs.Counter.{major, turned}
 use Rattle.turn_block.proofs.Laws.{length-turned, below-turned}
 use Rattle.control.specs.Control.{Cell, family, depth, root}
-use Rattle.cache.specs.declared.Found.{Found}
-use Rattle.cache.specs.declared.Found.TheVariants.{Nothing, At}
+use Rattle.std.specs.Prelude.{Option, None, Some}
 use Rattle.cache.proofs.Laws.{formed-facts}
 use Rattle.journal.proofs.Each.{Each, none, more}
 use Rattle.journal.proofs.Kept.{Within}
@@ -64,10 +63,10 @@ module _ {keys : List ℕ} {p : ℕ} {m : Module} (bytes : Bytes m) (ok : TurnAc
           l.few,
         )
 
-    checked-kept : (a : ℕ) (f : Found) → Kept m (turn_checked keys p a m c x f).after
+    checked-kept : (a : ℕ) (f : Option ℕ) → Kept m (turn_checked keys p a m c x f).after
     unfolding turn_checked turned_cache
-    checked-kept a (At n) = kept_same m bytes
-    checked-kept a Nothing =
+    checked-kept a (Some n) = kept_same m bytes
+    checked-kept a None =
         let b = block_of c p in
         storing-kept buffers a (stores_for (turn_batches keys p m c x)) _ (turned_cache h keys c p)
         (subst (λ (n : ℕ). Each (Within n) (stores_for (turn_batches keys p m c x)))

@@ -1,8 +1,8 @@
 -- One name whose `unfolding` opens every definition that an evaluated example runs. Assumes nothing.
 use Prim.Native.Nat.{ℕ}
 use Rattle.answer.specs.Answer.{code_of, stores_of, first_of, second_of}
-use Rattle.cache.specs.Cache.{owner, dirty, content, with_slot, cell_content, shadow_owner, from, stray, any_owner, missing_top, or_else, bad_slot}
-use Rattle.cache.specs.Cache.{flags_formed, is_nothing, formed, holds, current}
+use Rattle.cache.specs.Cache.{owner, dirty, content, with_slot, cell_content, shadow_owner, from, stray, any_owner, missing_top, bad_slot}
+use Rattle.cache.specs.Cache.{flags_formed, formed, holds, current}
 use Rattle.calls.specs.Call.{judged, access_refusal, storing}
 use Rattle.calls.specs.Read.{side_ok, line_text, blank_text, answered, read_loaded, read_path, read_judged}
 use Rattle.calls.specs.Write.{new_block, line_cell, write_batch, write_stores, written_cache, write_loaded, write_path, write_judged}
@@ -32,8 +32,8 @@ use Rattle.words.specs.Bytes.{number, digits, words_of, bytes_of}
 use Rattle.rotation.specs.Rotate.{rotl}
 
 unfoldable pub run : ℕ
-unfolding code_of stores_of first_of second_of owner dirty content with_slot cell_content shadow_owner from stray any_owner missing_top or_else
-    bad_slot flags_formed is_nothing formed holds current judged format_refusal recovery_refusal access_refusal list_refusal storing
+unfolding code_of stores_of first_of second_of owner dirty content with_slot cell_content shadow_owner from stray any_owner missing_top
+    bad_slot flags_formed formed holds current judged format_refusal recovery_refusal access_refusal list_refusal storing
     counts_from fresh_node node_cells level_cells fresh_array formatted format side_ok line_text blank_text answered read_loaded read_path
     read_judged new_block line_cell write_batch write_stores written_cache write_loaded write_path write_judged turn_refusal turn_places bad_line
     batches_of turn_front turn_batches stores_for turned_cache turn_checked turn_loaded turn_path turn_judged before_last before_finished set_from

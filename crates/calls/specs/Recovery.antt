@@ -12,8 +12,7 @@ use Rattle.candidates.specs.declared.Choice.TheVariants.{None, Only, Several}
 use Rattle.answer.specs.declared.Answer.TheVariants.{Done, Cut, Refused}
 use Rattle.control.specs.Control.{family, depth, root, is_open}
 use Rattle.cache.specs.Cache.{with_slot, empty_cache, cell_bytes, cell_content, shadow_owners, bad_slot, current}
-use Rattle.cache.specs.declared.Found.{Found}
-use Rattle.cache.specs.declared.Found.TheVariants.{Nothing, At}
+use Rattle.std.specs.Prelude.{Option, None, Some}
 use Rattle.journal.specs.Journal.{Media, store_all, pending_stores, made, is_cut}
 use Rattle.calls.specs.Path.{child_tags}
 use Rattle.calls.specs.Call.{Module, Called, media_of, with_media, judged, opening_tests, refuse}
@@ -130,9 +129,9 @@ recover_rebuilt keys k m os (so_far d sum) = recover_root keys k m sum (rebuild_
 recover_rebuilt keys k m os (failed n x) = refuse_after k m n x
 
 -- the cache is built only from the owners os that the shadow lists
-unfoldable pub recover_shadow : List ℕ → ℕ → Module → List ℕ → Found → Called
-recover_shadow keys k m os (At s) = refuse_after k m 27 s
-recover_shadow keys k m os Nothing =
+unfoldable pub recover_shadow : List ℕ → ℕ → Module → List ℕ → Option ℕ → Called
+recover_shadow keys k m os (Some s) = refuse_after k m 27 s
+recover_shadow keys k m os None =
     let h = depth m.control in
     recover_rebuilt keys k m os (rebuild_blocks h keys (media_of m) 0 (take 4 os) (empty_cache h) 0)
 

@@ -8,8 +8,7 @@ use Rattle.counter.specs.Counter.{major, written, turned}
 use Rattle.answer.specs.declared.Answer.TheVariants.{Done}
 use Rattle.control.specs.Control.{Cell, family, depth, root, turn_mask, turn_bytes, is_open, other_open, pending}
 use Rattle.cache.specs.Cache.{content, formed}
-use Rattle.cache.specs.declared.Found.{Found}
-use Rattle.cache.specs.declared.Found.TheVariants.{Nothing, At}
+use Rattle.std.specs.Prelude.{Option, None, Some}
 use Rattle.journal.specs.Journal.{Store, turn_stores}
 use Rattle.calls.specs.Path.{node_cell, Loaded, loaded, differs, load_path, renew_path, renewed_root}
 use Rattle.calls.specs.Call.{Module, Called, judged, opening_tests, refuse, storing}
@@ -38,10 +37,10 @@ unfoldable pub turn_places : List ℕ → List ℕ → ℕ → List ℕ
 turn_places k c p = cond (is_open k p) (set_bits (turn_mask k)) (written (block_of c p))
 
 -- the first of these lines that has minor 0 or wrong side bytes, in a module of family f
-unfoldable pub bad_line : ℕ → List ℕ → List ℕ → List ℕ → ℕ → List ℕ → Found
-bad_line f keys a c p [] = Nothing
+unfoldable pub bad_line : ℕ → List ℕ → List ℕ → List ℕ → ℕ → List ℕ → Option ℕ
+bad_line f keys a c p [] = None
 bad_line f keys a c p (j ∷ js) =
-    let n = line_at p j in cond (not (eqb (line_minor c n) 0) && side_ok f keys a c n) (bad_line f keys a c p js) (At n)
+    let n = line_at p j in cond (not (eqb (line_minor c n) 0) && side_ok f keys a c n) (bad_line f keys a c p js) (Some n)
 
 -- Batches
 
@@ -100,9 +99,9 @@ stores_for (b ∷ bs) = turn_stores b.cells b.root b.section ++ stores_for bs
 unfoldable pub turned_cache : ℕ → List ℕ → List ℕ → ℕ → List ℕ
 turned_cache h keys c p = renew_path keys c p (turned (block_of c p)) 0 h
 
-unfoldable pub turn_checked : List ℕ → ℕ → ℕ → Module → List ℕ → List Cell → Found → Called
-turn_checked keys p allowance m c x (At n) = refuse m 25 n 0
-turn_checked keys p allowance m c x Nothing =
+unfoldable pub turn_checked : List ℕ → ℕ → ℕ → Module → List ℕ → List Cell → Option ℕ → Called
+turn_checked keys p allowance m c x (Some n) = refuse m 25 n 0
+turn_checked keys p allowance m c x None =
     let xs = stores_for (turn_batches keys p m c x) in
     storing allowance m xs (Done (length xs) 0) (turned_cache (depth m.control) keys c p)
 

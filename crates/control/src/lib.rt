@@ -25,7 +25,7 @@ ghost use Rattle.control.specs.Control.{
   valid as is_valid,
 };
 
-use words::{load32, load64, store64};
+use words::Word;
 
 // Where the fields are; PLACES is the first place of the queue, TURN the section of a turn, LENGTH the record's own length.
 pub const DEPTH: usize = 5;
@@ -46,18 +46,12 @@ const TURN_MASK: usize = 673;
 
 pub const LENGTH: usize = 681;
 
-fn wide(x: u8) -> usize
-    ensures { (result ≡ x) × (result < 256) }
-{
-    x as usize
-}
-
 // The family that the mark tells: 1 for modules without phase bytes, else 0.
 pub fn family(control: &[u8]) -> u64
     requires { length control.now ≡ control_length }
     ensures { result ≡ family_of control.now }
 {
-    if load32(control, 0) == load32(b"PIGN", 0) {
+    if u32::load(control, 0) == u32::load(b"PIGN", 0) {
         return 1;
     }
     0
@@ -67,14 +61,14 @@ pub fn depth(control: &[u8]) -> usize
     requires { length control.now ≡ control_length }
     ensures { result ≡ depth_of control.now }
 {
-    wide(control[DEPTH])
+    usize::from(control[DEPTH])
 }
 
 pub fn root(control: &[u8]) -> u64
     requires { length control.now ≡ control_length }
     ensures { result ≡ root_of control.now }
 {
-    load64(control, ROOT)
+    u64::load(control, ROOT)
 }
 
 // The number of pending cells.
@@ -82,14 +76,14 @@ pub fn count(control: &[u8]) -> usize
     requires { length control.now ≡ control_length }
     ensures { result ≡ count_of control.now }
 {
-    wide(control[COUNT])
+    usize::from(control[COUNT])
 }
 
 pub fn new_root(control: &[u8]) -> u64
     requires { length control.now ≡ control_length }
     ensures { result ≡ new_root_of control.now }
 {
-    load64(control, NEW_ROOT)
+    u64::load(control, NEW_ROOT)
 }
 
 // The lines still to turn of the page that is open.
@@ -97,7 +91,7 @@ pub fn turn_mask(control: &[u8]) -> u64
     requires { length control.now ≡ control_length }
     ensures { result ≡ turn_mask_of control.now }
 {
-    load64(control, TURN_MASK)
+    u64::load(control, TURN_MASK)
 }
 
 // Writes the section of a turn.
@@ -105,8 +99,8 @@ pub fn put_turn(control: &mut [u8], count: u8, page: u64, mask: u64)
     requires { length control.old ≡ control_length }
     ensures { control.new ≡ put control.old turn_at (turn_bytes count page mask) }
 {
-    store64(control, TURN_PAGE, page);
-    store64(control, TURN_MASK, mask);
+    u64::store(control, TURN_PAGE, page);
+    u64::store(control, TURN_MASK, mask);
     control[TURN] = count;
 }
 
@@ -115,10 +109,7 @@ pub fn is_open(control: &[u8], p: u64) -> bool
     requires { length control.now ≡ control_length }
     ensures { result ≡ is_open control.now p }
 {
-    if control[TURN] != 1 {
-        return false;
-    }
-    load64(control, TURN_PAGE) == p
+    control[TURN] == 1 && u64::load(control, TURN_PAGE) == p
 }
 
 // Whether a page other than p is.
@@ -126,10 +117,7 @@ pub fn other_open(control: &[u8], p: u64) -> bool
     requires { length control.now ≡ control_length }
     ensures { result ≡ other_open control.now p }
 {
-    if control[TURN] != 1 {
-        return false;
-    }
-    load64(control, TURN_PAGE) != p
+    control[TURN] == 1 && u64::load(control, TURN_PAGE) != p
 }
 
 // Whether the mark is that of a family.
@@ -137,11 +125,11 @@ fn valid_mark(control: &[u8]) -> bool
     requires { length control.now ≡ control_length }
     ensures { result ≡ valid_mark control.now }
 {
-    let mark = load32(control, 0);
-    if mark == load32(b"PIGK", 0) {
+    let mark = u32::load(control, 0);
+    if mark == u32::load(b"PIGK", 0) {
         return true;
     }
-    mark == load32(b"PIGN", 0)
+    mark == u32::load(b"PIGN", 0)
 }
 
 // Whether mark, counts and depth are right.
@@ -172,12 +160,10 @@ fn cells_below(control: &[u8], n: usize, bound: usize) -> bool
     requires { (length control.now ≡ control_length) × (n ≤ 8) }
     ensures { result ≡ in_map bound (places control.now (place_at 0) n) }
 {
-    let mut j = 0;
-    while j < n {
-        if bound as u64 <= load64(control, PLACES + 80 * j) {
+    for j in 0..n {
+        if bound as u64 <= u64::load(control, PLACES + 80 * j) {
             return false;
         }
-        j += 1;
     }
     true
 }
@@ -193,10 +179,10 @@ fn valid_turn(control: &[u8], bound: usize) -> bool
     if 1 < control[TURN] {
         return false;
     }
-    if bound as u64 <= load64(control, TURN_PAGE) {
+    if bound as u64 <= u64::load(control, TURN_PAGE) {
         return false;
     }
-    0 < load64(control, TURN_MASK)
+    0 < u64::load(control, TURN_MASK)
 }
 
 // Whether the record is valid: refusal 21 is that it is not.

@@ -12,8 +12,7 @@ use Rattle.answer.specs.declared.Answer.TheVariants.{Done, Blank, Cut, Refused}
 use Rattle.answer.specs.Answer.{code_of, stores_of}
 use Rattle.counter.specs.Counter.{major}
 use Rattle.control.specs.Control.{Cell, family, depth, root}
-use Rattle.cache.specs.declared.Found.{Found}
-use Rattle.cache.specs.declared.Found.TheVariants.{Nothing, At}
+use Rattle.std.specs.Prelude.{Option, None, Some}
 use Rattle.cache.specs.Cache.{shadow_owners, bad_slot, empty_cache, current}
 use Rattle.tag.specs.Tag.{node_tag}
 use Rattle.journal.specs.Journal.{Store, Media, store_all, batch_stores, pending_stores, is_cut}
@@ -110,10 +109,10 @@ module _ (m : Module) where
         go (suc k) = λ n a b e. refl
 
   module _ (keys : List ℕ) (p allowance : ℕ) where
-    turn-checked : (c : List ℕ) (x : List Cell) (f : Found) → Same m (turn_checked keys p allowance m c x f)
+    turn-checked : (c : List ℕ) (x : List Cell) (f : Option ℕ) → Same m (turn_checked keys p allowance m c x f)
     unfolding turn_checked
-    turn-checked c x (At i) = λ n a b e. refl
-    turn-checked c x Nothing =
+    turn-checked c x (Some i) = λ n a b e. refl
+    turn-checked c x None =
         let xs = stores_for (turn_batches keys p m c x) in
         storing-same allowance xs (Done (length xs) 0) (turned_cache (depth m.control) keys c p) (λ n a b e. done-not e)
 
@@ -123,7 +122,7 @@ module _ (m : Module) where
     turn-path (loaded c x) =
         go (eqb (major (block_of c p)) (2 ^ 64 - 1)) (bad_line (family m.control) keys m.array c p (turn_places m.control c p))
       where
-        go : (s : Bool) (f : Found) → Same m (cond s (refuse m 31 0 0) (turn_checked keys p allowance m c x f))
+        go : (s : Bool) (f : Option ℕ) → Same m (cond s (refuse m 31 0 0) (turn_checked keys p allowance m c x f))
         go true f = λ n a b e. refl
         go false f = turn-checked c x f
 
@@ -165,10 +164,10 @@ module _ (keys : List ℕ) (k : ℕ) (x : Module) where
   left-rebuilt os (failed n i) = left-refused k x n i
   left-rebuilt os (so_far d sum) = left-root sum (rebuild_nodes h keys x.array 4 (drop 4 os) d)
 
-  left-shadow : (os : List ℕ) (r : Found) → Left k x (recover_shadow keys k x os r)
+  left-shadow : (os : List ℕ) (r : Option ℕ) → Left k x (recover_shadow keys k x os r)
   unfolding recover_shadow
-  left-shadow os (At s) = left-refused k x 27 s
-  left-shadow os Nothing = left-rebuilt os (rebuild_blocks h keys (media_of x) 0 (take 4 os) (empty_cache h) 0)
+  left-shadow os (Some s) = left-refused k x 27 s
+  left-shadow os None = left-rebuilt os (rebuild_blocks h keys (media_of x) 0 (take 4 os) (empty_cache h) 0)
 
   left-media : Left k x (recover_media keys k x)
   left-media = left-shadow (shadow_owners h x.array) (bad_slot h (shadow_owners h x.array))

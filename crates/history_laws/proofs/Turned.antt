@@ -12,8 +12,7 @@ use Rattle.bits.specs.Bits.{set_bits}
 use Rattle.counter.specs.Counter.{major, written}
 use Rattle.answer.specs.declared.Answer.TheVariants.{Done}
 use Rattle.control.specs.Control.{Cell, family, root, turn_mask, is_open, other_open}
-use Rattle.cache.specs.declared.Found.{Found}
-use Rattle.cache.specs.declared.Found.TheVariants.{Nothing, At}
+use Rattle.std.specs.Prelude.{Option, None, Some}
 use Rattle.journal.proofs.Each.{Each, none, more, each_append}
 use Rattle.journal.proofs.Again.{put-cells, put-cells-append}
 use Rattle.calls.specs.Path.{node_cell, renew_path}
@@ -39,12 +38,12 @@ use Rattle.history_laws.proofs.Turn.{c, Fresh, fresh, batches, new-block, cache-
 
 -- ---- the lines that may be turned
 
-is_nothing : Found → Bool
-is_nothing Nothing = true
-is_nothing (At n) = false
+is_nothing : Option ℕ → Bool
+is_nothing None = true
+is_nothing (Some n) = false
 
 -- where none is bad, each has a minor
-line-written : (f : ℕ) (keys a c : List ℕ) (p : ℕ) (js : List ℕ) → bad_line f keys a c p js ≡ Nothing → (j : ℕ) → among j js ≡ true
+line-written : (f : ℕ) (keys a c : List ℕ) (p : ℕ) (js : List ℕ) → bad_line f keys a c p js ≡ None → (j : ℕ) → among j js ≡ true
     → line_minor c (line_at p j) ≡ 0 → ⊥
 unfolding bad_line among is_nothing
 line-written f keys a c p [] e j m z = false≢true m
@@ -53,8 +52,8 @@ line-written f keys a c p (k ∷ ks) e j m z =
     (λ e m. line-written f keys a c p ks e j m z) m
   where
     go : (t : Bool) → (not (eqb (line_minor c (line_at p k)) 0) && side_ok f keys a c (line_at p k)) ≡ t
-        → cond t (bad_line f keys a c p ks) (At (line_at p k)) ≡ Nothing → (s : Bool) → eqb j k ≡ s
-        → (bad_line f keys a c p ks ≡ Nothing → among j ks ≡ true → ⊥) → (s || among j ks) ≡ true → ⊥
+        → cond t (bad_line f keys a c p ks) (Some (line_at p k)) ≡ None → (s : Bool) → eqb j k ≡ s
+        → (bad_line f keys a c p ks ≡ None → among j ks ≡ true → ⊥) → (s || among j ks) ≡ true → ⊥
     go false t e s q later m = false≢true (ap is_nothing e)
     go true t e true q later m =
         let both = (and-eq-true_iff (not (eqb (line_minor c (line_at p k)) 0)) (side_ok f keys a c (line_at p k))).0 t in
@@ -190,7 +189,7 @@ module _ {S : Setting} {b : Book} {o : Opening} {m : Module} {p : ℕ} (w : Page
     abbrev size : ℕ
     size = length (stores_for bs)
 
-    stores-end : major (block_of (c w) p) < 2 ^ 64 - 1 → bad_line (family k) keys m.array (c w) p places ≡ Nothing → (allowance : ℕ)
+    stores-end : major (block_of (c w) p) < 2 ^ 64 - 1 → bad_line (family k) keys m.array (c w) p places ≡ None → (allowance : ℕ)
         → Outcome S b (turn_entered true p b) (before_last bs) (Done size 0) (storing allowance m (stores_for bs) (Done size 0) (cache-new w))
     stores-end room good allowance =
         outcome (course w (omega (arith, room, major-at (reached w))) places (front joins) stage lines proper) _ allowance
@@ -204,7 +203,7 @@ module _ {S : Setting} {b : Book} {o : Opening} {m : Module} {p : ℕ} (w : Page
 
     -- the stores and the cache of the call
     done-is : (allowance : ℕ)
-        → turn_checked keys p allowance m (c w) x Nothing ≡ storing allowance m (stores_for bs) (Done size 0) (cache-new w)
+        → turn_checked keys p allowance m (c w) x None ≡ storing allowance m (stores_for bs) (Done size 0) (cache-new w)
     unfolding turn_checked turn_batches turn_front turned_cache
     done-is allowance =
         ap₂ {C = Called} (λ (d i : ℕ). stored d i) ready.holds.deep (settled w).alike
@@ -234,19 +233,19 @@ module _ {S : Setting} {b : Book} {o : Opening} {m : Module} {p : ℕ} (w : Page
       own : other_open k p ≡ false
       own = (turn-accepted keys p m open-now).closed
 
-      bad : Found
+      bad : Option ℕ
       bad = bad_line (family k) keys m.array (c w) p places
 
-      checked : Found → Called
+      checked : Option ℕ → Called
       checked = turn_checked keys p allowance m (c w) x
 
       opened : turn keys p allowance m ≡ cond (eqb (major (block_of (c w) p)) (2 ^ 64 - 1)) (refuse m 31 0 0) (checked bad)
       opened = ap (λ (n : ℕ). turn_judged n keys p allowance m) open-now ∙ ap (turn_path keys p allowance m) (path-is w)
 
-      lines : (turn keys p allowance m ≡ checked bad) → major (block_of (c w) p) < 2 ^ 64 - 1 → (f : Found) → bad ≡ f
+      lines : (turn keys p allowance m ≡ checked bad) → major (block_of (c w) p) < 2 ^ 64 - 1 → (f : Option ℕ) → bad ≡ f
           → Turns (turn keys p allowance m)
-      lines e room (At n) z = refused 25 n 0 (e ∙ ap checked z)
-      lines e room Nothing z =
+      lines e room (Some n) z = refused 25 n 0 (e ∙ ap checked z)
+      lines e room None z =
           went (size own)
           (subst₂ (λ (n : ℕ) (out : Called). Outcome S b (turn_entered true p b) n (Done (size own) 0) out) (sym (before-is own))
           (sym (e ∙ ap checked z ∙ done-is own allowance)) (stores-end own room z allowance))

@@ -8,18 +8,7 @@ ghost use Rattle.journal.specs.Journal.{media, store_all, made, committing, comm
 ghost use Rattle.journal.specs.Journal.Store.{cell};
 
 use copying::copy;
-use words::store64;
-
-// The least of a count and an allowance.
-fn least(n: usize, allowance: u64) -> usize
-    ensures { result ≡ min n allowance }
-{
-    if allowance < n as u64 {
-        allowance as usize
-    } else {
-        n
-    }
-}
+use words::Word;
 
 // Stores the first n cells of the queue.
 fn store_cells(array: &mut [u8], control: &[u8], n: usize)
@@ -28,12 +17,10 @@ fn store_cells(array: &mut [u8], control: &[u8], n: usize)
     ensures { media array.new control.now
         ≡ store_all (media array.old control.now) (map cell (places control.now (place_at 0) n)) }
 {
-    let mut j = 0;
-    while j < n {
+    for j in 0..n {
         let at = control::PLACES + 80 * j;
-        let number = words::load64(control, at) as usize;
+        let number = u64::load(control, at) as usize;
         copy(array, 72 * number, control, at + 8, 72);
-        j += 1;
     }
 }
 
@@ -42,7 +29,7 @@ fn commit(control: &mut [u8], n: usize, root: u64)
     requires { (length control.old ≡ control_length) × (n ≤ 8) }
     ensures { control.new ≡ put control.old count_at (n ∷ to_le 8 root) }
 {
-    store64(control, control::NEW_ROOT, root);
+    u64::store(control, control::NEW_ROOT, root);
     control[control::COUNT] = n as u8;
 }
 
@@ -57,13 +44,13 @@ pub fn finish(array: &mut [u8], control: &mut [u8], allowance: u64) -> u64
     if n == 0 {
         return 0;
     }
-    let cells = least(n, allowance);
-    store_cells(array, control, cells);
+    let cells = (n as u64).min(allowance);
+    store_cells(array, control, cells as usize);
     if allowance <= n as u64 {
-        return cells as u64;
+        return cells;
     }
     let root = control::new_root(control);
-    store64(control, control::ROOT, root);
+    u64::store(control, control::ROOT, root);
     if allowance == n as u64 + 1 {
         return allowance;
     }

@@ -5,12 +5,12 @@ use mathlib.Core.List.{List, [], ◌∷◌}
 use Prim.Native.Nat.{ℕ, ◌+◌, ◌-◌, ◌*◌, ◌^◌, ◌≤◌, ◌<◌}
 use native.Mathlib.Numerals.{add-one}
 use native.Mathlib.Omega.{arith}
-use lib.Dec.{eqb}
+use lib.Dec.{eqb, lit≤}
 use lib.ListN.{length, set, take, drop}
-use lib.Seq.{take_all}
+use lib.Seq.{take_all, take-take}
 use Rattle.words.specs.Bytes.{to_le, part, put}
 use Rattle.words.proofs.Digits.{length_digits}
-use Rattle.words.proofs.Parts.{length-put, put_one, put_three}
+use Rattle.words.proofs.Parts.{length_part, length-put, put_one, put_three}
 use Rattle.memory_map.specs.Map.{InMap, array_length, cell_of, lines}
 use Rattle.memory_map.specs.Map.Item.{line, node}
 use Rattle.memory_map.proofs.Laws.{level-shadow, shadow-cells, cells-small, cell-within, in-map-node}
@@ -24,12 +24,18 @@ pub slot-part : (c : List ℕ) (s : ℕ) → take (73 * s + 9 + 64 - (73 * s + 9
 unfolding content
 slot-part c s = let n : 73 * s + 9 + 64 - (73 * s + 9) ≡ 64 = omega arith in ap (λ (k : ℕ). take k (drop (73 * s + 9) c)) n
 
-pub cell-part : (a : List ℕ) (n : ℕ) → take (72 * n + 64 - 72 * n) (drop (72 * n) a) ≡ cell_content a n
-unfolding cell_content
-cell-part a n = let w : 72 * n + 64 - 72 * n ≡ 64 = omega arith in ap (λ (k : ℕ). take k (drop (72 * n) a)) w
-
 pub whole_part : (a : List ℕ) (n : ℕ) → take (72 * n + 72 - 72 * n) (drop (72 * n) a) ≡ cell_bytes a n
 whole_part a n = let w : 72 * n + 72 - 72 * n ≡ 72 = omega arith in ap (λ (k : ℕ). take k (drop (72 * n) a)) w
+
+pub front_part : (a : List ℕ) (n : ℕ) → take 64 (cell_bytes a n) ≡ cell_content a n
+unfolding cell_content
+front_part a n = take-take 64 72 (drop (72 * n) a) (lit≤ tt)
+
+pub front_length : (a : List ℕ) (n : ℕ) {b : List ℕ} → 72 * n + 72 ≤ length a → b ≡ cell_bytes a n → 64 ≡ length (take 64 b)
+front_length a n h e =
+    sym
+    (ap (λ (l : List ℕ). length (take 64 l)) e ∙ ap length (take-take 64 72 (drop (72 * n) a) (lit≤ tt))
+    ∙ length_part a (72 * n) 64 (omega arith))
 
 pub holds-is : (c : List ℕ) (l i : ℕ) {s o : ℕ} → s ≡ slot_of l i → o ≡ owner c s → eqb o (i + 1) ≡ holds c l i
 unfolding holds

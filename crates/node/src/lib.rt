@@ -15,6 +15,8 @@ ghost use Rattle.cache.specs.Cache.{
 };
 ghost use Rattle.node.specs.Sized.{Sized};
 
+use words::Word;
+
 // The content of a slot.
 pub fn in_slot(cache: &[u8], s: usize) -> &[u8]
     requires { 73 * s + 73 ≤ length cache.now }
@@ -24,15 +26,6 @@ pub fn in_slot(cache: &[u8], s: usize) -> &[u8]
     &cache[at..at + 64]
 }
 
-// The content of a cell.
-pub fn in_cell(array: &[u8], n: usize) -> &[u8]
-    requires { 72 * n + 72 ≤ length array.now }
-    ensures { result.now ≡ cell_content array.now n }
-{
-    let at = 72 * n;
-    &array[at..at + 64]
-}
-
 // All of a cell.
 pub fn cell(array: &[u8], n: usize) -> &[u8]
     requires { 72 * n + 72 ≤ length array.now }
@@ -40,6 +33,14 @@ pub fn cell(array: &[u8], n: usize) -> &[u8]
 {
     let start = 72 * n;
     &array[start..start + 72]
+}
+
+// The content of a cell.
+pub fn in_cell(array: &[u8], n: usize) -> &[u8]
+    requires { 72 * n + 72 ≤ length array.now }
+    ensures { result.now ≡ cell_content array.now n }
+{
+    &cell(array, n)[..64]
 }
 
 // Whether the cache has node i of level l.
@@ -67,7 +68,7 @@ pub fn put_slot(cache: &mut [u8], s: usize, owner: u64, dirty: u8, content: &[u8
     ensures { cache.new ≡ with_slot cache.old s owner dirty content.now }
 {
     let at = 73 * s;
-    words::store64(cache, at, owner);
+    u64::store(cache, at, owner);
     cache[at + 8] = dirty;
     copying::copy(cache, at + 9, content, 0, 64);
 }

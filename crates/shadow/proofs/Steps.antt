@@ -15,9 +15,9 @@ use Rattle.memory_map.specs.Map.Item.{shadow}
 use Rattle.memory_map.proofs.Laws.{shadow-after}
 use Rattle.slot_map.specs.Slots.{belongs}
 use Rattle.slot_map.proofs.Laws.{slot-within}
-use Rattle.cache.specs.Cache.{from, top_slot, stray, any_owner, missing_top, or_else, bad_slot, shadow_owner}
-use Rattle.cache.specs.declared.Found.{Found}
-use Rattle.cache.specs.declared.Found.TheVariants.{Nothing, At}
+use Rattle.cache.specs.Cache.{from, top_slot, stray, any_owner, missing_top, shadow_owner}
+use Rattle.std.specs.Option.{option_or, MatchOption}
+use Rattle.std.specs.Prelude.{Option, None, Some}
 use Rattle.cache.proofs.Owners.{rest, none}
 
 -- a step that is left stays within
@@ -39,12 +39,12 @@ owners-next f os s o h e p =
 
 pub stray-turn : (h : ℕ) (os : List ℕ) (n s : ℕ) (b : Bool) → s < n → n ≤ length os
     → (eqb (get_or os s 0) 0 || belongs h s (get_or os s 0)) ≡ b
-    → stray h s (drop s (take n os)) ≡ cond b (stray h (s + 1) (drop (s + 1) (take n os))) (At s)
+    → stray h s (drop s (take n os)) ≡ cond b (stray h (s + 1) (drop (s + 1) (take n os))) (Some s)
 unfolding stray
 stray-turn h os n s b p q e =
-    rw (rest os n s p q, add-one s) (ap (λ (t : Bool). cond t (stray h (suc s) (drop (suc s) (take n os))) (At s)) e)
+    rw (rest os n s p q, add-one s) (ap (λ (t : Bool). cond t (stray h (suc s) (drop (suc s) (take n os))) (Some s)) e)
 
-pub stray-end : (h : ℕ) (os : List ℕ) (n s : ℕ) → n ≤ s → stray h s (drop s (take n os)) ≡ Nothing
+pub stray-end : (h : ℕ) (os : List ℕ) (n s : ℕ) → n ≤ s → stray h s (drop s (take n os)) ≡ None
 unfolding stray
 stray-end h os n s p = rw (none os n s p)
 
@@ -58,21 +58,21 @@ pub any-end : (os : List ℕ) (n s : ℕ) → n ≤ s → any_owner (drop s (tak
 unfolding any_owner
 any-end os n s p = rw (none os n s p)
 
--- the ends of `bad_slot`: a stray slot, and none
-pub bad-stray : (h s : ℕ) (os : List ℕ) → stray h 0 os ≡ At s → At s ≡ bad_slot h os
-unfolding bad_slot or_else
-bad-stray h s os e = sym (ap (λ (f : Found). or_else f (missing_top h os)) e)
-
-pub bad-top : (h t : ℕ) (os : List ℕ) (b : Bool) → t ≡ top_slot h → stray h 0 (take (slots h) os) ≡ Nothing
-    → (any_owner (take (slots h) os) && eqb (get_or os t 0) 0) ≡ b → cond b (At t) Nothing ≡ bad_slot h (take (slots h) os)
-unfolding bad_slot or_else missing_top
-bad-top h t os b at e p =
+-- the top's slot, where it is empty and another is filled
+pub top-missing : (h t : ℕ) (os : List ℕ) (b : Bool) → t ≡ top_slot h
+    → (any_owner (take (slots h) os) && eqb (get_or os t 0) 0) ≡ b → cond b (Some t) None ≡ missing_top h (take (slots h) os)
+unfolding missing_top
+top-missing h t os b at p =
     let within : t < slots h = rw at (slot-within h h 0 (le_refl h)) in
     sym
-    (ap (λ (f : Found). or_else f (missing_top h (take (slots h) os))) e
-    ∙ ap (λ (k : ℕ). cond (any_owner (take (slots h) os) && eqb (get_or (take (slots h) os) k 0) 0) (At k) Nothing) (sym at)
-    ∙ ap (λ (o : ℕ). cond (any_owner (take (slots h) os) && eqb o 0) (At t) Nothing) (get_or-take (slots h) os t 0 within)
-    ∙ ap (λ (y : Bool). cond y (At t) Nothing) p)
+    (ap (λ (k : ℕ). cond (any_owner (take (slots h) os) && eqb (get_or (take (slots h) os) k 0) 0) (Some k) None) (sym at)
+    ∙ ap (λ (o : ℕ). cond (any_owner (take (slots h) os) && eqb o 0) (Some t) None) (get_or-take (slots h) os t 0 within)
+    ∙ ap (λ (y : Bool). cond y (Some t) None) p)
+
+-- what a search found, else what P tells of another
+pub found-or : (found r other : Option ℕ) (P : Type 0) → MatchOption found P (λ s. r ≡ Some s) → (P → r ≡ other) → r ≡ option_or found other
+found-or None r other P m told = told m
+found-or (Some s) r other P m told = m
 
 -- owners read by f are those that g gives
 pub owners-are : (f g : ℕ → ℕ) (h n : ℕ) (os : List ℕ) → n ≡ slots h → ((s : ℕ) → f s ≡ g s)

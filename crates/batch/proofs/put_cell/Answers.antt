@@ -11,9 +11,9 @@ use Rattle.batch.proofs.put_cell.Goals as goal
 
 pub returns-then-n-allowance : goal.returns-then-n-allowance
 returns-then-n-allowance c =
-    c.store64-then-n-allowance.ensures
+    c.store-then-n-allowance.ensures
     ∙ ap (λ (x : List ℕ). put x (place_at c.args.n + 72) (to_le 8 c.args.side))
-    (c.copy.ensures ∙ ap (λ (x : List ℕ). put x (place_at c.args.n + 8) (part c.args.content.now 0 64)) c.store64.ensures)
+    (c.copy.ensures ∙ ap (λ (x : List ℕ). put x (place_at c.args.n + 8) (part c.args.content.now 0 64)) c.store.ensures)
     ∙ cell-put c.args.control.now c.args.n c.args.allowance c.args.number (omega (arith, c.requires.0, c.requires.1.0)) c.if-n-allowance.true
     c.args.content.now c.args.side c.requires.1.1
 

@@ -14,7 +14,7 @@ pub returns-then-n-allowance : goal.returns-then-n-allowance
 returns-then-n-allowance c =
     c.zero.ensures
     ∙ ap (λ (x : List ℕ). put x (place_at c.args.n + 16) (replicate 64 0))
-    (c.store64-then-n-allowance.ensures ∙ ap (λ (x : List ℕ). put x (place_at c.args.n + 8) (to_le 8 c.args.owner)) c.store64.ensures)
+    (c.store-then-n-allowance.ensures ∙ ap (λ (x : List ℕ). put x (place_at c.args.n + 8) (to_le 8 c.args.owner)) c.store.ensures)
     ∙ shadow-put c.args.control.now c.args.n c.args.allowance c.args.number (omega (arith, c.requires.0, c.requires.1)) c.if-n-allowance.true
     c.args.owner
 

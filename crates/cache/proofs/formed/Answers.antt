@@ -2,7 +2,7 @@
 use mathlib.Core.Path.{◌≡◌, sym, ap, ◌∙◌}
 use mathlib.Core.Bool.{Bool, true, false, ◌&&◌, ◌||◌, not}
 use mathlib.Core.List.{List}
-use Prim.Native.Nat.{ℕ, ◌+◌, ◌-◌, ◌*◌, ◌≤◌, zero-le}
+use Prim.Native.Nat.{ℕ, ◌+◌, ◌-◌, ◌*◌, ◌≤◌}
 use native.Mathlib.Nat.{le_refl}
 use native.Mathlib.Omega.{arith}
 use lib.Dec.{eqb}
@@ -37,32 +37,30 @@ loop-l-init c =
     let low : (b : Bool) → c.slots_fit.result ≡ b → formed c.args.h c.args.cache.now ≡ (b && (levels c.args.h c.args.cache.now 0 c.args.h && topped c.args.h c.args.cache.now)) = λ b e. by_level c.args.h c.args.cache.now
     ∙ ap (λ (t : Bool). t && (levels c.args.h c.args.cache.now 0 c.args.h && topped c.args.h c.args.cache.now))
     (ap (λ (n : ℕ). all_fit 0 n c.args.cache.now 0 4) (sym c.nodes.ensures) ∙ sym c.slots_fit.ensures ∙ e) in
-    let all : c.args.h ≡ c.args.h - 0 = omega arith in (
-      zero-le,
-      low true c.if-not-slots_fit.false
-          ∙ ap (λ (j : ℕ). levels c.args.h c.args.cache.now 0 j && topped c.args.h c.args.cache.now) all,
-    )
+    let all : c.args.h ≡ c.args.h + 1 - 1 = omega arith in
+    low true c.if-not-slots_fit.false
+    ∙ ap (λ (j : ℕ). levels c.args.h c.args.cache.now 0 j && topped c.args.h c.args.cache.now) all
 
 pub slots_fit-requires-in-loop-l : goal.slots_fit-requires-in-loop-l
 slots_fit-requires-in-loop-l c = omega (arith, room c.args.h c.args.cache.now c.requires.1.1)
 
 pub returns-then-not-slots_fit-2 : goal.returns-then-not-slots_fit-2
 returns-then-not-slots_fit-2 c =
-    let turn : (b : Bool) → c.slots_fit-in-loop-l.result ≡ b → formed c.args.h c.args.cache.now ≡ ((b && levels c.args.h c.args.cache.now (c.loop-l.l + 1) (c.args.h - (c.loop-l.l + 1))) && topped c.args.h c.args.cache.now) = λ b e. let l = c.loop-l.l + 1 in
-    c.loop-l.invariant.1
+    let turn : (b : Bool) → c.slots_fit-in-loop-l.result ≡ b → formed c.args.h c.args.cache.now ≡ ((b && levels c.args.h c.args.cache.now (c.loop-l.l + 1 - 1) (c.args.h + 1 - (c.loop-l.l + 1))) && topped c.args.h c.args.cache.now) = λ b e. let l = c.loop-l.l in
+    c.loop-l.invariant
     ∙ ap (λ (t : Bool). t && topped c.args.h c.args.cache.now)
-    (level-turn c.args.h c.args.cache.now c.loop-l.l b c.loop-l-test.true
+    (level-turn c.args.h c.args.cache.now c.loop-l.l b (omega arith) (omega arith)
     (sym e ∙ c.slots_fit-in-loop-l.ensures ∙ ap (λ (n : ℕ). all_fit l n c.args.cache.now (2 + 2 * l) 2) c.nodes-in-loop-l.ensures)) in
     sym (turn false c.if-not-slots_fit-2.true)
 
 pub loop-l-preserved : goal.loop-l-preserved
 loop-l-preserved c =
-    let turn : (b : Bool) → c.slots_fit-in-loop-l.result ≡ b → formed c.args.h c.args.cache.now ≡ ((b && levels c.args.h c.args.cache.now (c.loop-l.l + 1) (c.args.h - (c.loop-l.l + 1))) && topped c.args.h c.args.cache.now) = λ b e. let l = c.loop-l.l + 1 in
-    c.loop-l.invariant.1
+    let turn : (b : Bool) → c.slots_fit-in-loop-l.result ≡ b → formed c.args.h c.args.cache.now ≡ ((b && levels c.args.h c.args.cache.now (c.loop-l.l + 1 - 1) (c.args.h + 1 - (c.loop-l.l + 1))) && topped c.args.h c.args.cache.now) = λ b e. let l = c.loop-l.l in
+    c.loop-l.invariant
     ∙ ap (λ (t : Bool). t && topped c.args.h c.args.cache.now)
-    (level-turn c.args.h c.args.cache.now c.loop-l.l b c.loop-l-test.true
+    (level-turn c.args.h c.args.cache.now c.loop-l.l b (omega arith) (omega arith)
     (sym e ∙ c.slots_fit-in-loop-l.ensures ∙ ap (λ (n : ℕ). all_fit l n c.args.cache.now (2 + 2 * l) 2) c.nodes-in-loop-l.ensures)) in
-    (omega arith, turn true c.if-not-slots_fit-2.false)
+    turn true c.if-not-slots_fit-2.false
 
 pub owner-requires : goal.owner-requires
 owner-requires c =
@@ -71,9 +69,9 @@ owner-requires c =
 
 pub returns-then-owner-ne0 : goal.returns-then-owner-ne0
 returns-then-owner-ne0 c =
-    let left : (b : Bool) → eqb c.owner.result 0 ≡ b → formed c.args.h c.args.cache.now ≡ (not b || not (any_owner (cache_owners c.args.h c.args.cache.now))) = λ b e. c.loop-l.invariant.1
+    let left : (b : Bool) → eqb c.owner.result 0 ≡ b → formed c.args.h c.args.cache.now ≡ (not b || not (any_owner (cache_owners c.args.h c.args.cache.now))) = λ b e. c.loop-l.invariant
     ∙ ap (λ (t : Bool). t && topped c.args.h c.args.cache.now)
-    (level-end c.args.h c.args.cache.now c.loop-l.l c.loop-l-test.false)
+    (level-end c.args.h c.args.cache.now c.loop-l.l (omega arith))
     ∙ ap (λ (t : Bool). not t || not (any_owner (cache_owners c.args.h c.args.cache.now)))
     (ap (λ (o : ℕ). eqb o 0) (ap (owner c.args.cache.now) (sym c.slot_of.ensures) ∙ sym c.owner.ensures) ∙ e) in
     sym (left false (ne_eqb c.owner.result 0 c.if-owner-ne0.true))
@@ -84,9 +82,9 @@ all_empty-requires c = rw c.slots.ensures (room c.args.h c.args.cache.now c.requ
 
 pub returns : goal.returns
 returns c =
-    let left : (b : Bool) → eqb c.owner.result 0 ≡ b → formed c.args.h c.args.cache.now ≡ (not b || not (any_owner (cache_owners c.args.h c.args.cache.now))) = λ b e. c.loop-l.invariant.1
+    let left : (b : Bool) → eqb c.owner.result 0 ≡ b → formed c.args.h c.args.cache.now ≡ (not b || not (any_owner (cache_owners c.args.h c.args.cache.now))) = λ b e. c.loop-l.invariant
     ∙ ap (λ (t : Bool). t && topped c.args.h c.args.cache.now)
-    (level-end c.args.h c.args.cache.now c.loop-l.l c.loop-l-test.false)
+    (level-end c.args.h c.args.cache.now c.loop-l.l (omega arith))
     ∙ ap (λ (t : Bool). not t || not (any_owner (cache_owners c.args.h c.args.cache.now)))
     (ap (λ (o : ℕ). eqb o 0) (ap (owner c.args.cache.now) (sym c.slot_of.ensures) ∙ sym c.owner.ensures) ∙ e) in
     c.all_empty.ensures ∙ ap (λ (n : ℕ). not (any_owner (from (owner c.args.cache.now) 0 n))) c.slots.ensures

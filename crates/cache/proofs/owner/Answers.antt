@@ -4,4 +4,4 @@ use Rattle.cache.proofs.owner.Goals as goal
 
 pub returns : goal.returns
 unfolding owner
-returns c = c.load64.ensures
+returns c = c.load.ensures

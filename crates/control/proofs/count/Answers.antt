@@ -4,4 +4,4 @@ use Rattle.control.proofs.Laws.{count_at_lem}
 use Rattle.control.proofs.count.Goals as goal
 
 pub returns : goal.returns
-returns c = c.wide.ensures.0 ∙ sym (count_at_lem c.args.control.now)
+returns c = c.from.ensures ∙ sym (count_at_lem c.args.control.now)

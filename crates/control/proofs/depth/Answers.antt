@@ -4,4 +4,4 @@ use Rattle.control.proofs.Laws.{depth-at}
 use Rattle.control.proofs.depth.Goals as goal
 
 pub returns : goal.returns
-returns c = c.wide.ensures.0 ∙ sym (depth-at c.args.control.now)
+returns c = c.from.ensures ∙ sym (depth-at c.args.control.now)

@@ -4,4 +4,4 @@ use Rattle.control.proofs.Laws.{new-root-at}
 use Rattle.control.proofs.new_root.Goals as goal
 
 pub returns : goal.returns
-returns c = c.load64.ensures ∙ sym (new-root-at c.args.control.now)
+returns c = c.load.ensures ∙ sym (new-root-at c.args.control.now)

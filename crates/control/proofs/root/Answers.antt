@@ -4,4 +4,4 @@ use Rattle.control.proofs.Laws.{root-at}
 use Rattle.control.proofs.root.Goals as goal
 
 pub returns : goal.returns
-returns c = c.load64.ensures ∙ sym (root-at c.args.control.now)
+returns c = c.load.ensures ∙ sym (root-at c.args.control.now)

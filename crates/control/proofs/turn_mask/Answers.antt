@@ -4,4 +4,4 @@ use Rattle.control.proofs.Laws.{turn-mask-at}
 use Rattle.control.proofs.turn_mask.Goals as goal
 
 pub returns : goal.returns
-returns c = c.load64.ensures ∙ sym (turn-mask-at c.args.control.now)
+returns c = c.load.ensures ∙ sym (turn-mask-at c.args.control.now)

@@ -4,11 +4,11 @@ use lib.Dec.{eqb}
 use Rattle.control.proofs.Laws.{mark-at, mark-bytes, other-mark-bytes, mark-right, mark-other}
 use Rattle.control.proofs.valid_mark.Goals as goal
 
-pub returns-then-mark-load32 : goal.returns-then-mark-load32
-returns-then-mark-load32 c = mark-right c.args.control.now (mark-at c.args.control.now ∙ sym c.load32-mark.ensures ∙ c.if-mark-load32.true ∙ c.load32.ensures ∙ mark-bytes)
+pub returns-then-mark-load : goal.returns-then-mark-load
+returns-then-mark-load c = mark-right c.args.control.now (mark-at c.args.control.now ∙ sym c.load-mark.ensures ∙ c.if-mark-load.true ∙ c.load.ensures ∙ mark-bytes)
 
 pub returns : goal.returns
 returns c =
-    let is = c.load32-mark.ensures ∙ sym (mark-at c.args.control.now) in
-    ap₂ eqb is (c.load32-2.ensures ∙ other-mark-bytes)
-    ∙ mark-other c.args.control.now (λ z. c.if-mark-load32.false (is ∙ z ∙ sym (c.load32.ensures ∙ mark-bytes)))
+    let is = c.load-mark.ensures ∙ sym (mark-at c.args.control.now) in
+    ap₂ eqb is (c.load-2.ensures ∙ other-mark-bytes)
+    ∙ mark-other c.args.control.now (λ z. c.if-mark-load.false (is ∙ z ∙ sym (c.load.ensures ∙ mark-bytes)))

@@ -12,14 +12,14 @@ returns-then-control-eq0 c = turn-none c.args.control.now c.if-control-eq0.true
 pub returns-then-control-gt1 : goal.returns-then-control-gt1
 returns-then-control-gt1 c = turn_many c.args.control.now c.if-control-eq0.false (λ e. omega (arith, c.if-control-gt1.true, e))
 
-pub returns-then-bound-load64 : goal.returns-then-bound-load64
-returns-then-bound-load64 c =
+pub returns-then-bound-load : goal.returns-then-bound-load
+returns-then-bound-load c =
     let is_one : get_or c.args.control.now 664 0 ≡ 1 = omega (arith, c.if-control-gt1.false, c.if-control-eq0.false) in
-    turn-past c.args.control.now c.if-control-eq0.false is_one (omega (arith, c.if-bound-load64.true, c.load64.ensures, turn-page-at c.args.control.now, c.requires.1))
+    turn-past c.args.control.now c.if-control-eq0.false is_one (omega (arith, c.if-bound-load.true, c.load.ensures, turn-page-at c.args.control.now, c.requires.1))
 
 pub returns : goal.returns
 returns c =
     let is_one : get_or c.args.control.now 664 0 ≡ 1 = omega (arith, c.if-control-gt1.false, c.if-control-eq0.false) in
-    ap (ltb 0) (c.load64-2.ensures ∙ sym (turn-mask-at c.args.control.now))
+    ap (ltb 0) (c.load-2.ensures ∙ sym (turn-mask-at c.args.control.now))
     ∙ turn_in c.args.control.now c.if-control-eq0.false is_one
-    (omega (arith, c.if-bound-load64.false, c.load64.ensures, turn-page-at c.args.control.now, c.requires.1))
+    (omega (arith, c.if-bound-load.false, c.load.ensures, turn-page-at c.args.control.now, c.requires.1))

@@ -9,5 +9,5 @@ use Rattle.journal.proofs.commit.Goals as goal
 
 pub returns : goal.returns
 returns c =
-    ap (λ (l : List ℕ). set l 15 c.args.n) c.store64.ensures
+    ap (λ (l : List ℕ). set l 15 c.args.n) c.store.ensures
     ∙ commit-put c.args.control.now c.args.n c.args.root (omega arith)

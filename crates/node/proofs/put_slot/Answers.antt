@@ -14,5 +14,5 @@ copy-requires c = simp length-set (omega arith)
 pub returns : goal.returns
 returns c =
     c.copy.ensures
-    ∙ ap (λ (x : List ℕ). put (set x (73 * c.args.s + 8) c.args.dirty) (73 * c.args.s + 9) (part c.args.content.now 0 64)) c.store64.ensures
+    ∙ ap (λ (x : List ℕ). put (set x (73 * c.args.s + 8) c.args.dirty) (73 * c.args.s + 9) (part c.args.content.now 0 64)) c.store.ensures
     ∙ slot-put c.args.cache.now c.args.s c.args.owner c.args.dirty c.args.content.now c.requires.0 c.requires.1
