@@ -1,0 +1,10 @@
+-- The same buffers, from one call to the next. Assumes nothing.
+use mathlib.Core.Path.{refl, ◌∙◌}
+use Rattle.lent.specs.declared.Lent.{Lent}
+use Rattle.lent.specs.Lent.{Same}
+
+pub same-first : (m : Lent) → Same m m
+same-first m = record { keys = refl; control = refl; array = refl; cache = refl }
+
+pub same_more : {k m n : Lent} → Same k m → Same m n → Same k n
+same_more x y = record { keys = y.keys ∙ x.keys; control = y.control ∙ x.control; array = y.array ∙ x.array; cache = y.cache ∙ x.cache }
