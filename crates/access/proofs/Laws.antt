@@ -6,6 +6,8 @@ use Prim.Native.Nat.{ℕ, ◌≤◌, ◌<◌}
 use native.Mathlib.Omega.{arith}
 use borrow.Author.Tests.{le-leb, lt-leb, lt-ltb, le-ltb}
 use lib.ListN.{length}
+use Rattle.answer.specs.declared.Refusal.{Refusal}
+use Rattle.answer.specs.Refusal.{number_of}
 use Rattle.memory_map.specs.Map.{lines, array_length}
 use Rattle.slot_map.specs.Slots.{cache_length}
 use Rattle.control.specs.Control.{control_length, depth, count, valid}
@@ -13,6 +15,10 @@ use Rattle.cache.specs.Cache.{formed}
 use Rattle.calls.specs.Call.{Module, judged, opening_tests, entry_refusal}
 use Rattle.calls.specs.Recovery.{recovery_refusal}
 use Rattle.call_laws.proofs.Judged.{here, on, end, unlike-true, unlike-false, judged-front, Opened, opened-on}
+
+-- no refusal has the number 0
+pub some-number : (r : Refusal) → number_of r ≡ 0 → ⊥
+some-number r e = grind arith
 
 module _ (keys : List ℕ) (m : Module) where
   pub wrong-keys : (length keys ≡ 48 → ⊥) → 2 ≡ recovery_refusal keys m

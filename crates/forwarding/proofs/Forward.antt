@@ -1,7 +1,7 @@
 -- Minors brought forward one by one. Assumes nothing.
-use mathlib.Core.Path.{◌≡◌, refl, sym, ap, ap₂, ◌∙◌}
+use mathlib.Core.Path.{◌≡◌, refl, sym, ap, ap₂, ◌∙◌, subst}
 use mathlib.Core.Bool.{Bool, true, false, cond}
-use mathlib.Core.List.{List, []}
+use mathlib.Core.List.{List, [], ◌∷◌, ◌++◌}
 use Prim.Native.Nat.{ℕ, zero, suc, ◌+◌, ◌-◌, ◌*◌, ◌≤◌, ◌<◌}
 use native.Mathlib.Nat.{add-zero, le_refl}
 use native.Mathlib.Numerals.{add-one}
@@ -21,7 +21,6 @@ use Rattle.control.specs.Control.{is_open}
 use Rattle.cache.specs.Cache.{cell_bytes}
 use Rattle.calls.specs.Recovery.{Step, to, bad, by_phase, by_choice, Source, step_of, line_step, phase_byte}
 use Rattle.calls.specs.Recovery.{Forwarded, so_far, failed, onward, stepped, forward_from, forward_page}
-use Rattle.forwarding.specs.Rebuild.{as_byte}
 
 -- ---- the step of a line
 
@@ -54,65 +53,42 @@ line-within x n s = go x.family
     go (suc f) = choice-within s _ (choice-near x.keys (cell_bytes x.array n) n x.major s)
 
 -- how the code of `step` ends, by the family
-module _ (x : Source) (n s : ℕ) where
-  pub phase-step : x.family ≡ 0 → {p r : ℕ} → r ≡ as_byte (by_phase s p) → p ≡ phase_byte x.array n → r ≡ as_byte (line_step x n s)
+module _ (x : Source) (n s : ℕ) {t : Step} where
+  pub phase-step : x.family ≡ 0 → {p : ℕ} → t ≡ by_phase s p → p ≡ phase_byte x.array n → t ≡ line_step x n s
   unfolding step_of
-  phase-step z e q = e ∙ ap (λ (i : ℕ). as_byte (by_phase s i)) q ∙ ap (λ (f : ℕ). as_byte (step_of f x n s)) (sym z)
+  phase-step z e q = e ∙ ap (by_phase s) q ∙ ap (λ (f : ℕ). step_of f x n s) (sym z)
 
-  pub choice-step : (x.family ≡ 0 → ⊥) → {b : List ℕ} {y : Choice} {r : ℕ} → r ≡ as_byte (by_choice y) → b ≡ cell_bytes x.array n
-      → y ≡ choice x.keys b n x.major s → r ≡ as_byte (line_step x n s)
+  pub choice-step : (x.family ≡ 0 → ⊥) → {b : List ℕ} {y : Choice} → t ≡ by_choice y → b ≡ cell_bytes x.array n
+      → y ≡ choice x.keys b n x.major s → t ≡ line_step x n s
   unfolding step_of
-  choice-step z {b} {y} {r} e p q = go x.family z
+  choice-step z {b} {y} e p q = go x.family z
     where
       cell-choice : y ≡ choice x.keys (cell_bytes x.array n) n x.major s
       cell-choice = q ∙ ap (λ (l : List ℕ). choice x.keys l n x.major s) p
 
-      go : (f : ℕ) → (f ≡ 0 → ⊥) → r ≡ as_byte (step_of f x n s)
+      go : (f : ℕ) → (f ≡ 0 → ⊥) → t ≡ step_of f x n s
       go zero w = absurd (w refl)
-      go (suc f) w = e ∙ ap (λ (c : Choice). as_byte (by_choice c)) cell-choice
+      go (suc f) w = e ∙ ap by_choice cell-choice
 
 -- how the code of `forwarded` ends
 module _ (s p : ℕ) where
-  pub phase-out : 3 < p → 128 + 28 ≡ as_byte (by_phase s p)
-  unfolding as_byte by_phase
+  pub phase-out : 3 < p → bad 28 ≡ by_phase s p
+  unfolding by_phase
   phase-out q = rw (lt-leb p 3 q) refl
 
   module _ (l : p ≤ 3) {r : ℕ} (e : r ≡ forward s p) where
-    pub minor-out : 127 < r → 128 + 32 ≡ as_byte (by_phase s p)
-    unfolding as_byte by_phase
+    pub minor-out : 127 < r → bad 32 ≡ by_phase s p
+    unfolding by_phase
     minor-out q = let past : 127 < forward s p = omega arith in rw (le-leb p 3 l, lt-leb (forward s p) 127 past) refl
 
-    pub minor-in : r ≤ 127 → r ≡ as_byte (by_phase s p)
-    unfolding as_byte by_phase
-    minor-in q = let few : forward s p ≤ 127 = omega arith in rw (le-leb p 3 l, le-leb (forward s p) 127 few) e
+    pub minor-in : r ≤ 127 → to r ≡ by_phase s p
+    unfolding by_phase
+    minor-in q = let few : forward s p ≤ 127 = omega arith in rw (le-leb p 3 l, le-leb (forward s p) 127 few) (ap to e)
 
--- a step, by the byte that tells it
-record ByByte (s v : ℕ) (t : Step) : Type 0 where
-  made : v < 128 → t ≡ to v
-  least : v < 128 → s ≤ v
-  most : v < 128 → v ≤ s + 3
-  fails : 128 ≤ v → t ≡ bad (v - 128)
-
-by_byte : (s : ℕ) (t : Step) → Within s t → {v : ℕ} → v ≡ as_byte t → ByByte s v t
-unfolding Within as_byte
-by_byte s (to u) w e =
-    record {
-      made = λ q. ap to (sym e);
-      least = λ q. omega (arith, w.0);
-      most = λ q. omega (arith, w.1);
-      fails = λ q. absurd (omega (arith, w.2));
-    }
-by_byte s (bad k) w {v} e =
-    let number : k ≡ v - 128 = omega arith in
-    record {
-      made = λ q. absurd (omega arith);
-      least = λ q. absurd (omega arith);
-      most = λ q. absurd (omega arith);
-      fails = λ q. ap bad number;
-    }
-
-line-byte : (x : Source) (n s : ℕ) {v : ℕ} → v ≡ as_byte (line_step x n s) → ByByte s v (line_step x n s)
-line-byte x n s e = by_byte s (line_step x n s) (line-within x n s) e
+-- a step that is made
+line-near : (x : Source) (n s : ℕ) {v : ℕ} → to v ≡ line_step x n s → (s ≤ v) × (v ≤ s + 3) × (v < 128)
+unfolding Within
+line-near x n s e = subst (Within s) (sym e) (line-within x n s)
 
 -- ---- lines one by one
 
@@ -135,34 +111,30 @@ module _ (x : Source) (n : ℕ) (ss : List ℕ) (first : ℕ) where
         begun = λ e. (refl, refl);
       }
 
-  module _ {cur : List ℕ} {j sum : ℕ} (f : Forwarding x n ss first cur j sum) (q : j < 64) {v : ℕ}
-      (e : v ≡ as_byte (line_step x (n + j) (get_or cur j 0))) where
+  module _ {cur : List ℕ} {j sum : ℕ} (f : Forwarding x n ss first cur j sum) (q : j < 64) where
     abbrev old : ℕ
     old = get_or cur j 0
-
-    by : ByByte old v (line_step x (n + j) old)
-    by = line-byte x (n + j) old e
 
     -- line n + j, and those after it
     abbrev others : List ℕ → ℕ → Forwarded
     others = forward_from x (suc (n + j)) (drop (suc j) cur)
 
-    opened : {t : Step} → line_step x (n + j) old ≡ t → forward_from x n ss [] first ≡ onward (stepped t (n + j) old (take j cur) sum) others
+    opened : {t : Step} → t ≡ line_step x (n + j) old → forward_from x n ss [] first ≡ onward (stepped t (n + j) old (take j cur) sum) others
     unfolding forward_from
     opened d =
         f.rest ∙ ap (λ (l : List ℕ). forward_from x (n + j) l (take j cur) sum) (drop-cons cur j 0 (omega (arith, f.size)))
-        ∙ ap (λ (t : Step). onward (stepped t (n + j) old (take j cur) sum) others) d
+        ∙ ap (λ (t : Step). onward (stepped t (n + j) old (take j cur) sum) others) (sym d)
 
-    pub forwarding-fails : 128 ≤ v → forward_from x n ss [] first ≡ failed (v - 128) (n + j)
+    pub forwarding-fails : {k : ℕ} → bad k ≡ line_step x (n + j) old → forward_from x n ss [] first ≡ failed k (n + j)
     unfolding stepped onward
-    forwarding-fails p = opened (by.fails p)
+    forwarding-fails e = opened e
 
-    module _ (p : v < 128) where
+    module _ {v : ℕ} (e : to v ≡ line_step x (n + j) old) where
       pub forwarded-ge : old ≤ v
-      forwarded-ge = by.least p
+      forwarded-ge = (line-near x (n + j) old e).0
 
       pub forwarded-le : v ≤ old + 3
-      forwarded-le = by.most p
+      forwarded-le = (line-near x (n + j) old e).1
 
       pub forwarding-next : Forwarding x n ss first (set cur j v) (j + 1) (sum + (v - old))
       unfolding stepped onward
@@ -172,9 +144,9 @@ module _ (x : Source) (n : ℕ) (ss : List ℕ) (first : ℕ) where
           let t = sum + (v - old) in
           record {
             size = length-set cur j v ∙ f.size;
-            few = below_set cur j v (omega arith) f.few;
+            few = below_set cur j v (line-near x (n + j) old e).2 f.few;
             rest =
-                opened (by.made p)
+                opened e
                 ∙ ap₂ {C = Forwarded} (λ (xs ys : List ℕ). forward_from x (suc (n + j)) ys xs t)
                 (sym (take-suc-set cur j v room) ∙ ap (λ (k : ℕ). take k (set cur j v)) (sym (add-one j)))
                 (sym (drop-set-lt (suc j) cur j v (le_refl (suc j))) ∙ ap (λ (k : ℕ). drop k (set cur j v)) (sym (add-one j)))
@@ -194,21 +166,16 @@ module _ (x : Source) (n : ℕ) (ss : List ℕ) (first : ℕ) where
 
 -- ---- a page, of which n lines are brought forward: none where it is open
 
-pub few-lines : (b : Bool) (n : ℕ) → n ≡ cond b 0 64 → n ≤ 64
-few-lines true n e = omega arith
-few-lines false n e = omega arith
-
 module _ (k : List ℕ) (x : Source) (p : ℕ) (ss : List ℕ) (first : ℕ) {cur : List ℕ} {j sum n : ℕ}
     (f : Forwarding x (64 * p) ss first cur j sum) (bound : n ≡ cond (is_open k p) 0 64) where
-  pub page-fails : j < n → {v : ℕ} → v ≡ as_byte (line_step x (64 * p + j) (get_or cur j 0)) → 128 ≤ v
-      → forward_page k x p ss first ≡ failed (v - 128) (64 * p + j)
+  pub page-fails : j < n → {i : ℕ} → bad i ≡ line_step x (64 * p + j) (get_or cur j 0) → forward_page k x p ss first ≡ failed i (64 * p + j)
   unfolding forward_page
-  page-fails q {v} e z = go (is_open k p) bound
+  page-fails q {i} e = go (is_open k p) bound
     where
       go : (b : Bool) → n ≡ cond b 0 64
-          → cond b (so_far ss first) (forward_from x (64 * p) ss [] first) ≡ failed (v - 128) (64 * p + j)
+          → cond b (so_far ss first) (forward_from x (64 * p) ss [] first) ≡ failed i (64 * p + j)
       go true w = absurd (omega arith)
-      go false w = forwarding-fails x (64 * p) ss first f (omega arith) e z
+      go false w = forwarding-fails x (64 * p) ss first f (omega arith) e
 
   pub page-all : j ≤ n → n ≤ j → forward_page k x p ss first ≡ so_far cur sum
   unfolding forward_page
@@ -217,3 +184,35 @@ module _ (k : List ℕ) (x : Source) (p : ℕ) (ss : List ℕ) (first : ℕ) {cu
       go : (b : Bool) → n ≡ cond b 0 64 → cond b (so_far ss first) (forward_from x (64 * p) ss [] first) ≡ so_far cur sum
       go true w = let same = f.begun (omega arith) in sym (ap₂ so_far same.0 same.1)
       go false w = forwarding-all x (64 * p) ss first f (omega arith)
+
+-- ---- a page's own sum
+
+-- as it is told, after a sum
+unfoldable pub after : ℕ → Forwarded → Forwarded
+after n (so_far l t) = so_far l (n + t)
+after n (failed k i) = failed k i
+
+from-after : (x : Source) (a : ℕ) (ss : List ℕ) (n : ℕ) (ms : List ℕ) (b : ℕ)
+    → forward_from x n ss ms (a + b) ≡ after a (forward_from x n ss ms b)
+unfolding forward_from after stepped onward
+from-after x a [] n ms b = refl
+from-after x a (s ∷ ss) n ms b = go (line_step x n s) (λ v. from-after x a ss (suc n) (ms ++ (v ∷ [])) (b + (v - s)))
+  where
+    go : (t : Step) → ((v : ℕ) → forward_from x (suc n) ss (ms ++ (v ∷ [])) (a + (b + (v - s)))
+        ≡ after a (forward_from x (suc n) ss (ms ++ (v ∷ [])) (b + (v - s))))
+        → onward (stepped t n s ms (a + b)) (forward_from x (suc n) ss) ≡ after a (onward (stepped t n s ms b) (forward_from x (suc n) ss))
+    go (to v) rest =
+        let sum : a + b + (v - s) ≡ a + (b + (v - s)) = omega arith in
+        ap (forward_from x (suc n) ss (ms ++ (v ∷ []))) sum ∙ rest v
+    go (bad k) rest = refl
+
+pub page-after : (k : List ℕ) (x : Source) (p : ℕ) (ss : List ℕ) (a : ℕ) → forward_page k x p ss a ≡ after a (forward_page k x p ss 0)
+unfolding forward_page after
+page-after k x p ss a = go (is_open k p)
+  where
+    whole : a ≡ a + 0
+    whole = omega arith
+
+    go : (b : Bool) → cond b (so_far ss a) (forward_from x (64 * p) ss [] a) ≡ after a (cond b (so_far ss 0) (forward_from x (64 * p) ss [] 0))
+    go true = ap (so_far ss) whole
+    go false = ap (forward_from x (64 * p) ss []) whole ∙ from-after x a ss (64 * p) [] 0

@@ -1,10 +1,11 @@
 -- What rebuilding asks of the owners, and what bringing the counters forward tells. Assumes nothing.
-use Rattle.std.specs.Prelude.{◌≡◌, true, List, ℕ, suc, ◌+◌, ◌<◌, get_or}
+use Rattle.std.specs.Prelude.{◌≡◌, true, List, ℕ, suc, ◌<◌, get_or, Result, Ok, Err}
 use Rattle.memory_map.specs.Map.{slots}
 use Rattle.slot_map.specs.Slots.{belongs}
 use Rattle.calls.specs.Recovery.{Step, to, bad, Source, Forwarded, so_far, failed}
-use Rattle.forwarding.specs.declared.Counters.{Counters}
-use Rattle.forwarding.specs.declared.Counters.TheVariants.{Sum, Failed}
+use Rattle.answer.specs.declared.Refusal.{Refusal}
+use Rattle.answer.specs.Refusal.{number_of}
+use Rattle.forwarding.specs.declared.Failed.{Failed}
 
 -- each owner, an index + 1, belongs to its slot
 pub record Placed (h : ℕ) (os : List ℕ) : Type 0 where
@@ -13,12 +14,12 @@ pub record Placed (h : ℕ) (os : List ℕ) : Type 0 where
 abbrev pub source_is : ℕ → List ℕ → List ℕ → ℕ → Source
 source_is f keys a ma = record { family = f; keys = keys; array = a; major = ma }
 
--- a step as a byte: the new minor, or 128 and the refusal
-unfoldable pub as_byte : Step → ℕ
-as_byte (to v) = v
-as_byte (bad k) = 128 + k
+-- a step, as it is told: the new minor, or the refusal
+unfoldable pub as_step : Result ℕ Refusal → Step
+as_step (Ok v) = to v
+as_step (Err r) = bad (number_of r)
 
 -- the counter slots in the cache c, by what is told of them
-unfoldable pub counted : Counters → List ℕ → Forwarded
-counted (Sum n) c = so_far c n
-counted (Failed k n) c = failed k n
+unfoldable pub counted : Result ℕ Failed → List ℕ → Forwarded
+counted (Ok n) c = so_far c n
+counted (Err f) c = failed (number_of f.refusal) f.line

@@ -10,6 +10,8 @@ ghost use Rattle.calls.specs.Path.{child_tags};
 ghost use Rattle.calls.specs.Format.{fresh_array};
 ghost use Rattle.fresh_tree.specs.Front.{Sized, fresh_front};
 
+use words::Word;
+
 // Writes node i of level l + 1: the tags of its children as they lie in the array.
 fn put_node(h: usize, keys: &[u8], l: usize, i: usize, array: &mut [u8])
     requires { Sized h keys.now array.old × InMap h (node (l + 1) i) }
@@ -17,13 +19,11 @@ fn put_node(h: usize, keys: &[u8], l: usize, i: usize, array: &mut [u8])
         (child_tags keys.now l (λ j. cell_content array.old (cell_of h (node l j))) i) }
 {
     let at = 72 * memory_map::node_cell(h, l + 1, i);
-    let mut k = 0;
-    while k < 8 {
+    for k in 0..8 {
         let child = 8 * i + k;
         let content = node::in_cell(array, memory_map::node_cell(h, l, child));
         let tag = tag::node_tag(keys, content, l as u64, child as u64);
-        words::store64(array, at + 8 * k, tag);
-        k += 1;
+        u64::store(array, at + 8 * k, tag);
     }
 }
 
@@ -33,11 +33,8 @@ fn put_level(h: usize, keys: &[u8], l: usize, array: &mut [u8])
     requires array_value { array.old ≡ fresh_front keys.now h (level_start h (l + 1)) }
     ensures { array.new ≡ fresh_front keys.now h (level_start h (l + 2)) }
 {
-    let n = memory_map::nodes(h, l + 1);
-    let mut i = 0;
-    while i < n {
+    for i in 0..memory_map::nodes(h, l + 1) {
         put_node(h, keys, l, i, array);
-        i += 1;
     }
 }
 
@@ -46,9 +43,7 @@ pub fn put_tree(h: usize, keys: &[u8], array: &mut [u8])
     requires { Sized h keys.now array.old × (array.old ≡ replicate (array_length h) 0) }
     ensures { array.new ≡ fresh_array keys.now h }
 {
-    let mut l = 0;
-    while l < h {
+    for l in 0..h {
         put_level(h, keys, l, array);
-        l += 1;
     }
 }

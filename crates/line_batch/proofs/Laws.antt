@@ -1,7 +1,7 @@
 -- Laws of the batch of a write: the data cell, the counter block, and all of it. Assumes nothing.
-use mathlib.Core.Path.{◌≡◌, sym, ap, ap₂, ◌∙◌}
+use mathlib.Core.Path.{◌≡◌, refl, sym, ap, ap₂, ◌∙◌, subst}
 use mathlib.Core.List.{List, [], ◌∷◌, ◌++◌}
-use Prim.Native.Nat.{ℕ, suc, ◌+◌, ◌%◌, ◌<◌}
+use Prim.Native.Nat.{ℕ, suc, ◌+◌, ◌%◌, ◌^◌, ◌<◌, ◌≤◌}
 use native.Mathlib.Nat.{zero-add}
 use native.Mathlib.Omega.{arith}
 use borrow.Author.Tests.{lt-ltb, eq-eqb, ne_eqb}
@@ -11,8 +11,9 @@ use Rattle.words.specs.Bytes.{digits, from_le, to_le, put}
 use Rattle.words.proofs.Digits.{length_digits}
 use Rattle.words.proofs.Parts.{put-append, put_all}
 use Rattle.words.proofs.Puts.{part-put}
-use Rattle.memory_map.specs.Map.{page_of, cell_of}
+use Rattle.memory_map.specs.Map.{pages, lines, page_of, cell_of}
 use Rattle.memory_map.specs.Map.Item.{node}
+use Rattle.memory_map.proofs.Laws.{page-inside, lines-small}
 use Rattle.pad.specs.Pad.{pad, xor_bytes}
 use Rattle.side.specs.Side.{side_bytes}
 use Rattle.side.proofs.Laws.{side-back}
@@ -60,6 +61,11 @@ line-put k n allowance c size few within full at e =
 
 -- ---- the counter block
 
+-- as a cell
+pub block-cell : (h p : ℕ) (b : List ℕ) (x : ℕ) → x ≡ cell_of h (node 0 p) → cell_with x b 0 ≡ node_cell h 0 p b
+unfolding digits
+block-cell h p b x e = ap (λ (y : ℕ). cell_with y b 0) e
+
 -- what the block adds to n staged cells
 pub record Blocked (h p mi : ℕ) (b : List ℕ) (allowance : ℕ) (before after : List ℕ) (n m : ℕ) : Type 0 where
   pub cells : after ≡ staged_from allowance n (block_cells h p mi b) before
@@ -75,14 +81,14 @@ module _ (h p mi : ℕ) (b : List ℕ) (allowance : ℕ) (before : List ℕ) (n 
         number = omega (arith, ap length none);
       }
 
-  pub block-some : mi % 4 ≡ 0 → (after : List ℕ) (x : ℕ) → x ≡ cell_of h (node 0 p) → after ≡ staged allowance n (cell_with x b 0) before
+  pub block-some : mi % 4 ≡ 0 → (after : List ℕ) → after ≡ staged allowance n (node_cell h 0 p b) before
       → Blocked h p mi b allowance before after n (n + 1)
-  unfolding block_cells digits
-  block-some e after x f g =
+  unfolding block_cells
+  block-some e after g =
       let one : block_cells h p mi b ≡ node_cell h 0 p b ∷ [] = rw (eq-eqb (mi % 4) 0 e) in
       record {
         cells =
-            g ∙ ap (λ (y : ℕ). staged allowance n (cell_with y b 0) before) f ∙ staged-one allowance n (node_cell h 0 p b) before
+            g ∙ staged-one allowance n (node_cell h 0 p b) before
             ∙ ap (λ (z : List Cell). staged_from allowance n z before) (sym one);
         number = sym (ap (λ (z : List Cell). n + length z) one);
       }
@@ -93,6 +99,25 @@ pub cells-length : (h f : ℕ) (keys c : List ℕ) (n : ℕ) (text : List ℕ) (
     → length (line_cells h f keys c n text ma mi b) ≡ length (path_cells h c (page_of n) (suc h)) + length (block_cells h (page_of n) mi b) + 1
 unfolding line_cells
 cells-length h f keys c n text ma mi b = all-length h f keys n text ma mi b (path_cells h c (page_of n) (suc h))
+
+-- room for what is staged before the data cell, and the page of the line
+pub record Few (h : ℕ) (c : List ℕ) (n mi : ℕ) (b : List ℕ) (p : ℕ) : Type 0 where
+  pub path : length (path_cells h c p (suc h)) ≤ 7
+  pub both : length (path_cells h c p (suc h)) + length (block_cells h p mi b) ≤ 7
+  pub page : p < pages h
+  pub word : n < 2 ^ 32
+
+pub few : (h f : ℕ) (keys c : List ℕ) (n : ℕ) (text : List ℕ) (ma mi : ℕ) (b : List ℕ) {p : ℕ} → p ≡ page_of n → h ≤ 3 → n < lines h
+    → length (line_cells h f keys c n text ma mi b) ≤ 8 → Few h c n mi b p
+few h f keys c n text ma mi b page high inside room =
+    let all = cells-length h f keys c n text ma mi b in
+    subst (Few h c n mi b) (sym page)
+    (record {
+      path = omega (arith, all, room);
+      both = omega (arith, all, room);
+      page = page-inside h n inside;
+      word = omega (arith, inside, lines-small {h = h} refl high);
+    })
 
 -- what is staged step by step: the path, the block, the data cell
 module _ (h f : ℕ) (keys c : List ℕ) (n : ℕ) (text : List ℕ) (ma mi : ℕ) (b : List ℕ) (allowance : ℕ) (p : ℕ) (page : p ≡ page_of n) where

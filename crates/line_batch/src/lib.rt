@@ -7,9 +7,12 @@ ghost use Rattle.slot_map.specs.Slots.{cache_length};
 ghost use Rattle.control.specs.Control.{control_length};
 ghost use Rattle.batch.specs.Batch.{staged, staged_from};
 ghost use Rattle.cache.specs.Cache.{formed};
+ghost use Rattle.calls.specs.Path.{node_cell};
 ghost use Rattle.calls.specs.Write.{line_cell};
 ghost use Rattle.call_laws.specs.Line.{block_cells, line_cells};
 ghost use Rattle.call_laws.specs.Walk.{missing as missing_nodes, path_cells};
+
+use words::Word;
 
 // Writes the 72 bytes of a data cell.
 fn seal(family: u64, keys: &[u8], line: usize, text: &[u8], major: u64, minor: u64, cell: &mut [u8])
@@ -26,7 +29,7 @@ fn seal(family: u64, keys: &[u8], line: usize, text: &[u8], major: u64, minor: u
         &mut cell[0..64],
     );
     let side = side::word(family, keys, &cell[0..64], line as u64, major, minor);
-    words::store64(cell, 64, side);
+    u64::store(cell, 64, side);
 }
 
 // Stages the data cell of a text at a counter as cell n of a batch.
@@ -48,7 +51,7 @@ pub fn put_data(
 {
     if (n as u64) < allowance {
         let at = control::PLACES + 80 * n;
-        words::store64(control, at, line as u64);
+        u64::store(control, at, line as u64);
         seal(
             family,
             keys,
@@ -82,8 +85,18 @@ pub fn put_path(
     loading::gather(h, cache, p, control, allowance)
 }
 
-// Stages the counter block behind n cells where its new minor is a multiple of 4, and tells how many cells there then are.
-fn put_block(
+// Stages the counter block of page p as cell n of a batch.
+pub fn put_block(h: usize, p: usize, block: &[u8], control: &mut [u8], n: usize, allowance: u64)
+    requires { (1 ≤ h) × ((h ≤ 3) × ((p < pages h) × ((length block.now ≡ 64)
+        × ((length control.old ≡ control_length) × (n < 8))))) }
+    ensures { control.new ≡ staged allowance n (node_cell h 0 p block.now) control.old }
+{
+    let cell = memory_map::node_cell(h, 0, p);
+    batch::put_cell(control, n, allowance, cell, block, 0);
+}
+
+// The same where its new minor is a multiple of 4; tells how many cells there then are.
+fn put_due_block(
     h: usize,
     p: usize,
     minor: u64,
@@ -100,46 +113,45 @@ fn put_block(
     if minor % 4 != 0 {
         return n;
     }
-    batch::put_cell(
-        control,
-        n,
-        allowance,
-        memory_map::node_cell(h, 0, p),
-        block,
-        0,
-    );
+    put_block(h, p, block, control, n, allowance);
     n + 1
 }
 
-// Stages the batch of a write of a text at a counter, and tells how many cells it has.
+// A write to a line whose path is found: the counter that it is at, and how many nodes of the line's path the cache lacks.
+#[derive(Clone, Copy)]
+pub struct LineWrite {
+    pub line: usize,
+    pub major: u64,
+    pub minor: u64,
+    pub missing: u64,
+}
+
+// Stages the batch of a write of a text, whose page then has this counter block, and tells how many cells it has.
 pub fn gather(
     h: usize,
     family: u64,
     keys: &[u8],
     cache: &[u8],
-    line: usize,
+    w: LineWrite,
     text: &[u8],
-    major: u64,
-    minor: u64,
     block: &[u8],
-    missing: u64,
     control: &mut [u8],
     allowance: u64,
 ) -> usize
-    requires keys_len { (length keys.now ≡ 48) × ((length text.now ≡ 64) × ((minor < 128) × (length block.now ≡ 64))) }
-    requires le_h { (1 ≤ h) × ((h ≤ 3) × ((length cache.now ≡ cache_length h) × ((formed h cache.now ≡ true) × (line < lines h)))) }
-    requires control_len { (length control.old ≡ control_length) × ((missing ≡ missing_nodes cache.now (page_of line) (suc h))
-        × (length (line_cells h family keys.now cache.now line text.now major minor block.now) ≤ 8)) }
-    ensures control_after { control.new ≡ staged_from allowance 0 (line_cells h family keys.now cache.now line
-        text.now major minor block.now) control.old }
-    ensures value { result ≡ length (line_cells h family keys.now cache.now line text.now major minor
+    requires keys_len { (length keys.now ≡ 48) × ((length text.now ≡ 64) × ((w.minor < 128) × (length block.now ≡ 64))) }
+    requires le_h { (1 ≤ h) × ((h ≤ 3) × ((length cache.now ≡ cache_length h) × ((formed h cache.now ≡ true) × (w.line < lines h)))) }
+    requires control_len { (length control.old ≡ control_length) × ((w.missing ≡ missing_nodes cache.now (page_of w.line) (suc h))
+        × (length (line_cells h family keys.now cache.now w.line text.now w.major w.minor block.now) ≤ 8)) }
+    ensures control_after { control.new ≡ staged_from allowance 0 (line_cells h family keys.now cache.now w.line
+        text.now w.major w.minor block.now) control.old }
+    ensures value { result ≡ length (line_cells h family keys.now cache.now w.line text.now w.major w.minor
         block.now) }
 {
-    let p = memory_map::page_of(line);
-    let i = put_path(h, cache, p, missing, control, allowance);
-    let held = put_block(h, p, minor, block, control, i, allowance);
+    let p = memory_map::page_of(w.line);
+    let i = put_path(h, cache, p, w.missing, control, allowance);
+    let held = put_due_block(h, p, w.minor, block, control, i, allowance);
     put_data(
-        family, keys, line, text, major, minor, control, held, allowance,
+        family, keys, w.line, text, w.major, w.minor, control, held, allowance,
     );
     held + 1
 }

@@ -7,14 +7,16 @@ use native.Mathlib.Nat.{le_refl}
 use native.Mathlib.Omega.{arith}
 use lib.Dec.{eqb}
 use lib.ListN.{length, get_or}
-use Rattle.memory_map.specs.Map.{cells, page_of, on_path, cell_of, InMap}
+use Rattle.words.proofs.Digits.{Below}
+use Rattle.memory_map.specs.Map.{lines, page_of, on_path, cell_of, InMap}
 use Rattle.memory_map.specs.Map.Item.{line, node}
-use Rattle.memory_map.proofs.Laws.{cell-injective, page-node, path-node}
+use Rattle.memory_map.proofs.Laws.{cell-injective, page-inside, page-node, path-node}
 use Rattle.counter.specs.Counter.{lag}
 use Rattle.answer.specs.declared.Answer.TheVariants.{Done, Cut}
-use Rattle.control.specs.Control.{Cell}
+use Rattle.control.specs.Control.{control_length, Cell}
 use Rattle.batch.specs.Batch.{staged_from}
-use Rattle.cache.specs.Cache.{cell_content, holds}
+use Rattle.cache.specs.Cache.{cell_content, formed, holds}
+use Rattle.node.specs.Sized.{Sized}
 use Rattle.journal.specs.Journal.{Store, Media, media, store_all, batch_stores, made as takes}
 use Rattle.journal.proofs.Each.{Each, none, more, each_append}
 use Rattle.journal.proofs.Steps.{Ran}
@@ -22,7 +24,7 @@ use Rattle.calls.specs.Path.{node_cell, renew_path, renewed_root}
 use Rattle.calls.specs.Call.{Called, buffers, ended, storing}
 use Rattle.calls.specs.Write.{line_cell}
 use Rattle.call_laws.specs.Line.{block_cells, line_cells}
-use Rattle.call_laws.specs.Walk.{path_cells, with_path}
+use Rattle.call_laws.specs.Walk.{missing, path_cells, with_path}
 use Rattle.call_laws.proofs.Loads.{Sound, cells-sound}
 use Rattle.call_laws.proofs.Apart.{Other, node-avoids, stored-length, content-kept}
 use Rattle.call_laws.proofs.Line.{Lent, all_sound, block-few}
@@ -31,6 +33,25 @@ use Rattle.path.proofs.Ready.{Ready, fit, few}
 use Rattle.line_batch.proofs.Laws.{cells-length}
 use Rattle.renewal.specs.Renewed.{renewed_tag, renewed_by}
 use Rattle.line_store.proofs.Renewed.{root-renewed, same-renewed}
+
+-- ---- what storing a line asks for, of buffers of bytes
+
+pub ready : {h : ℕ} {a k c : List ℕ} {n j : ℕ}
+    → (length k ≡ control_length) × (Sized h a c × ((formed h c ≡ true) × ((n < lines h) × (j ≡ missing c (page_of n) (suc h)))))
+    → Below 256 a → Below 256 k → Below 256 c → Ready h a k c (page_of n)
+ready {h} {n = n} q x y z =
+    record {
+      sized = q.1.0;
+      control = q.0;
+      shaped = q.1.1.0;
+      page = page-inside h n q.1.1.1.0;
+      array-bytes = x;
+      control-bytes = y;
+      cache-bytes = z;
+    }
+
+pub lent : {h n : ℕ} {text b : List ℕ} → n < lines h → length text ≡ 64 → length b ≡ 64 → Below 256 text → Below 256 b → Lent h n text b
+lent i t w x y = record { inside = i; full = t; text-bytes = x; wide = w; block-bytes = y }
 
 module _ {h : ℕ} {a k c : List ℕ} {n : ℕ} (y : Ready h a k c (page_of n)) (fam : ℕ) (keys : List ℕ) {text b : List ℕ} (v : Lent h n text b)
     (ma mi : ℕ) where

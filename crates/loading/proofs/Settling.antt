@@ -1,5 +1,6 @@
 -- The path loaded under an allowance: nothing to load, or its batch staged and run. Assumes nothing.
 use mathlib.Core.Path.{◌≡◌, sym, ap, ap₂, ◌∙◌}
+use mathlib.Core.Bool.{true}
 use mathlib.Core.List.{List, []}
 use Prim.Native.Nat.{ℕ, suc, ◌+◌, ◌*◌, ◌≤◌, ◌<◌}
 use native.Mathlib.Nat.{le_refl}
@@ -7,7 +8,11 @@ use native.Mathlib.Omega.{arith}
 use lib.ListN.{length}
 use lib.Seq.{take-nil}
 use Rattle.answer.specs.declared.Answer.TheVariants.{Done, Cut}
-use Rattle.control.specs.Control.{Cell, root}
+use Rattle.words.proofs.Digits.{Below}
+use Rattle.memory_map.specs.Map.{pages}
+use Rattle.control.specs.Control.{control_length, Cell, root}
+use Rattle.cache.specs.Cache.{formed}
+use Rattle.node.specs.Sized.{Sized}
 use Rattle.batch.specs.Batch.{staged_from}
 use Rattle.journal.specs.Journal.{Store, Media, media, store_all, batch_stores}
 use Rattle.journal.proofs.Laws.{batch-empty, store-none}
@@ -19,6 +24,21 @@ use Rattle.call_laws.proofs.Staged.{Staged, stored, staged-cut, staged_done}
 use Rattle.call_laws.proofs.Apart.{path-kept}
 use Rattle.path.proofs.Ready.{Ready, fit, few}
 use Rattle.call_laws.proofs.Storing.{storing-done}
+
+-- what settling asks for, of buffers of bytes
+pub asked : {h : ℕ} {a k c : List ℕ} {p j : ℕ}
+    → (length k ≡ control_length) × (Sized h a c × ((formed h c ≡ true) × ((p < pages h) × (j ≡ missing c p (suc h)))))
+    → Below 256 a → Below 256 k → Below 256 c → Ready h a k c p
+asked q x y z =
+    record {
+      sized = q.1.0;
+      control = q.0;
+      shaped = q.1.1.0;
+      page = q.1.1.1.0;
+      array-bytes = x;
+      control-bytes = y;
+      cache-bytes = z;
+    }
 
 module _ {h : ℕ} {a k c : List ℕ} {p : ℕ} (y : Ready h a k c p) where
   abbrev m : Module

@@ -5,16 +5,31 @@ ghost use Rattle.std.specs.Prelude.{◌≡◌, true, false, suc, ◌+◌, ◌<�
 ghost use Rattle.memory_map.specs.Map.{pages, InMap};
 ghost use Rattle.memory_map.specs.Map.Item.{node};
 ghost use Rattle.slot_map.specs.Slots.{cache_length};
-ghost use Rattle.answer.specs.declared.Answer.TheVariants.{Done};
+ghost use Rattle.answer.specs.declared.Answer.TheVariants.{Done, Cut};
 ghost use Rattle.control.specs.Control.{control_length, root as root_of};
 ghost use Rattle.cache.specs.Cache.{formed, holds};
 ghost use Rattle.batch.specs.Batch.{staged_from};
 ghost use Rattle.node.specs.Sized.{Sized};
 ghost use Rattle.calls.specs.Call.{buffers, ended, storing};
 ghost use Rattle.call_laws.specs.Walk.{missing as missing_nodes, node_cells, path_cells, path_stores, with_path};
+ghost use Rattle.loading.specs.Settled.{settled};
 
 use answer::Answer;
 use memory_map::on_path;
+
+// A call is cut after so many stores.
+#[derive(Clone, Copy, Debug, PartialEq, Eq)]
+pub struct CutShort {
+    pub stores: u64,
+}
+
+impl From<CutShort> for Answer {
+    ghost from_gives = { λ c a. a ≡ Cut c.stores };
+
+    fn from(cut: CutShort) -> Answer {
+        Answer::Cut { stores: cut.stores }
+    }
+}
 
 // Stages the cells of a missing node behind n others, and tells how many cells there then are.
 fn gather_node(
@@ -60,9 +75,7 @@ pub fn gather(h: usize, cache: &[u8], p: usize, control: &mut [u8], allowance: u
     ensures value { result ≡ length (path_cells h cache.now p (suc h)) }
 {
     let mut k = 0;
-    let mut n = h + 1;
-    while 0 < n {
-        n -= 1;
+    for n in (0..h + 1).rev() {
         let i = on_path(p, n);
         if !node::holds(cache, n, i) {
             k = gather_node(h, cache, n, i, control, k, allowance);
@@ -76,9 +89,7 @@ pub fn load(h: usize, array: &[u8], p: usize, cache: &mut [u8])
     requires { Sized h array.now cache.old × (p < pages h) }
     ensures { cache.new ≡ with_path h array.now p (suc h) cache.old }
 {
-    let mut n = h + 1;
-    while 0 < n {
-        n -= 1;
+    for n in (0..h + 1).rev() {
         let i = on_path(p, n);
         if !node::holds(cache, n, i) {
             let content = node::in_cell(array, memory_map::node_cell(h, n, i));
@@ -98,7 +109,7 @@ pub fn load_missing(h: usize, array: &[u8], p: usize, missing: u64, cache: &mut 
     load(h, array, p, cache);
 }
 
-// Loads the missing nodes of a path under an allowance: done, or cut with the cache as it was.
+// Loads the missing nodes of a path under an allowance: so many stores, or cut with the cache as it was.
 pub fn settle(
     h: usize,
     control: &mut [u8],
@@ -107,24 +118,24 @@ pub fn settle(
     p: usize,
     missing: u64,
     allowance: u64,
-) -> Answer
+) -> Result<u64, CutShort>
     requires { (length control.old ≡ control_length) × (Sized h array.old cache.old
         × ((formed h cache.old ≡ true) × ((p < pages h) × (missing ≡ missing_nodes cache.old p (suc h))))) }
-    ensures { ended result array.new control.new cache.new
+    ensures { ended (settled result) array.new control.new cache.new
         ≡ storing allowance (buffers array.old control.old cache.old)
         (path_stores h cache.old p (root_of control.old))
         (Done (length (path_stores h cache.old p (root_of control.old))) 0)
         (with_path h array.old p (suc h) cache.old) }
 {
     if missing == 0 {
-        return Answer::Done { stores: 0, sum: 0 };
+        return Ok(0);
     }
     let root = control::root(control);
     let n = gather(h, cache, p, control, allowance);
     let stores = journal::run(array, control, n, root, allowance);
     if stores < 2 * n as u64 + 3 {
-        return Answer::Cut { stores };
+        return Err(CutShort { stores });
     }
     load(h, array, p, cache);
-    Answer::Done { stores, sum: 0 }
+    Ok(stores)
 }

@@ -1,5 +1,5 @@
 -- The tag that a node must carry, the turns of the walk, level by level from the top, and what it tells. Assumes nothing.
-use mathlib.Core.Path.{◌≡◌, refl, sym, ap, ap₂, ◌∙◌}
+use mathlib.Core.Path.{◌≡◌, refl, sym, ap, ap₂, ◌∙◌, subst}
 use mathlib.Core.Bool.{Bool, true, false, cond}
 use mathlib.Core.List.{List}
 use mathlib.Core.Option.{Option, none, some}
@@ -9,14 +9,25 @@ use native.Mathlib.Omega.{arith}
 use borrow.Author.Tests.{eq-eqb, ne_eqb}
 use lib.ListN.{length}
 use Rattle.words.specs.Bytes.{from_le, part}
-use Rattle.memory_map.specs.Map.{pages, on_path, array_length}
+use Rattle.memory_map.specs.Map.{pages, lines, page_of, on_path, array_length, InMap}
+use Rattle.memory_map.specs.Map.Item.{node}
+use Rattle.memory_map.proofs.Laws.{page-inside, path-node}
 use Rattle.slot_map.specs.Slots.{cache_length}
 use Rattle.cache.specs.Cache.{holds, current}
 use Rattle.calls.specs.Path.{child_tag, Loaded, loaded, differs, load_path}
-use Rattle.path.specs.declared.Path.TheVariants as Path·variants
+use Rattle.std.specs.Prelude.{Result, Ok, Err}
+use Rattle.path.specs.declared.Differs.{Differs}
 use Rattle.call_laws.specs.Walk.{missing, expected_tag, path_cells, with_path}
 use Rattle.path.specs.Told.{told}
 use Rattle.call_laws.proofs.Loading.{right_tag, first_wrong, outcome, load-path}
+
+-- the page of a line of the map
+pub page-of-line : (h : ℕ) {n p : ℕ} → p ≡ page_of n → n < lines h → p < pages h
+page-of-line h {n} e q = omega (arith, e, page-inside h n q)
+
+-- the node of a level on the path of a page of the map
+pub path-inside : {h p l i : ℕ} → p < pages h → l ≤ h → i ≡ on_path p l → InMap h (node l i)
+path-inside {h} {p} {l} page low e = subst (λ (j : ℕ). InMap h (node l j)) (sym e) (path-node h p l page low)
 
 -- ---- the tag that a node must carry
 
@@ -104,35 +115,37 @@ module _ (h : ℕ) (high : h ≤ 3) (keys a : List ℕ) (whole : length a ≡ ar
   path-found : (o : Option ℕ) → first_wrong h keys a c r p (suc h) ≡ o → load_path h keys a r p c ≡ found o
   path-found o e = load-path h high keys a whole r p page c size ∙ ap found e
 
-  pub told-loaded : (k j : ℕ) → first_wrong h keys a c r p (suc h) ≡ none → j ≡ k → Path·variants.Loaded j ≡ told k (load_path h keys a r p c)
+  pub told-loaded : (k j : ℕ) → first_wrong h keys a c r p (suc h) ≡ none → j ≡ k → Ok j ≡ told k (load_path h keys a r p c)
   unfolding told
-  told-loaded k j e f = sym (ap (told k) (path-found none e) ∙ ap Path·variants.Loaded (sym f))
+  told-loaded k j e f = sym (ap (told k) (path-found none e) ∙ ap Ok (sym f))
 
-  pub told-differs : (k j i : ℕ) → first_wrong h keys a c r p (suc h) ≡ some j → i ≡ on_path p j → Path·variants.Differs j i
+  -- the level and the index of the node
+  abbrev at : ℕ → ℕ → Differs
+  at l i = record { level = l; index = i }
+
+  pub told-differs : (k j i : ℕ) → first_wrong h keys a c r p (suc h) ≡ some j → i ≡ on_path p j → Err (at j i)
       ≡ told k (load_path h keys a r p c)
   unfolding told
-  told-differs k j i e f = sym (ap (told k) (path-found (some j) e) ∙ ap (Path·variants.Differs j) (sym f))
+  told-differs k j i e f = sym (ap (told k) (path-found (some j) e) ∙ ap (λ (x : ℕ). Err (at j x)) (sym f))
 
-  pub loaded-told : (k j : ℕ) → Path·variants.Loaded j ≡ told k (load_path h keys a r p c)
+  pub loaded-told : (k j : ℕ) → Ok j ≡ told k (load_path h keys a r p c)
       → (j ≡ k) × (load_path h keys a r p c ≡ loaded (with_path h a p (suc h) c) (path_cells h c p (suc h)))
   unfolding told
   loaded-told k j e = go (first_wrong h keys a c r p (suc h)) refl
     where
       go : (o : Option ℕ) → first_wrong h keys a c r p (suc h) ≡ o
           → (j ≡ k) × (load_path h keys a r p c ≡ loaded (with_path h a p (suc h) c) (path_cells h c p (suc h)))
-      go none f = (let is : Path·variants.Loaded j ≡ Path·variants.Loaded k = e ∙ ap (told k) (path-found none f) in cc, path-found none f)
+      go none f = (let is : ◌≡◌ {A = Result ℕ Differs} (Ok j) (Ok k) = e ∙ ap (told k) (path-found none f) in cc, path-found none f)
       go (some l) f =
-          absurd (let is : Path·variants.Loaded j ≡ Path·variants.Differs l (on_path p l) = e
-          ∙ ap (told k) (path-found (some l) f) in let z : ◌≡◌ {A = ℕ} 0 1 = cc in omega arith)
+          absurd (let is : ◌≡◌ {A = Result ℕ Differs} (Ok j) (Err (at l (on_path p l))) = e ∙ ap (told k) (path-found (some l) f) in cc)
 
-  pub differs-told : (k j i : ℕ) → Path·variants.Differs j i ≡ told k (load_path h keys a r p c) → load_path h keys a r p c ≡ differs j i
+  pub differs-told : (k : ℕ) (d : Differs) → Err d ≡ told k (load_path h keys a r p c) → load_path h keys a r p c ≡ differs d.level d.index
   unfolding told
-  differs-told k j i e = go (first_wrong h keys a c r p (suc h)) refl
+  differs-told k d e = go (first_wrong h keys a c r p (suc h)) refl
     where
-      go : (o : Option ℕ) → first_wrong h keys a c r p (suc h) ≡ o → load_path h keys a r p c ≡ differs j i
-      go none f =
-          absurd (let is : Path·variants.Differs j i ≡ Path·variants.Loaded k = e
-          ∙ ap (told k) (path-found none f) in let z : ◌≡◌ {A = ℕ} 0 1 = cc in omega arith)
+      go : (o : Option ℕ) → first_wrong h keys a c r p (suc h) ≡ o → load_path h keys a r p c ≡ differs d.level d.index
+      go none f = absurd (let is : ◌≡◌ {A = Result ℕ Differs} (Err d) (Ok k) = e ∙ ap (told k) (path-found none f) in cc)
       go (some l) f =
-          let is : Path·variants.Differs j i ≡ Path·variants.Differs l (on_path p l) = e ∙ ap (told k) (path-found (some l) f) in
-          path-found (some l) f ∙ ap₂ {C = Loaded} differs (let one : l ≡ j = cc in one) (let two : on_path p l ≡ i = cc in two)
+          let is : ◌≡◌ {A = Result ℕ Differs} (Err d) (Err (at l (on_path p l))) = e ∙ ap (told k) (path-found (some l) f) in
+          let same : d ≡ at l (on_path p l) = cc in
+          path-found (some l) f ∙ ap (λ (x : Differs). differs x.level x.index) (sym same)

@@ -23,10 +23,10 @@ use Rattle.call_laws.specs.Walk.{missing, path_cells, with_path}
 use Rattle.call_laws.proofs.Judged.{Opened, Accepted, head_of}
 use Rattle.call_laws.proofs.Loading.{path-content}
 use Rattle.call_laws.proofs.Loads.{Fit, path-few}
-use Rattle.path.specs.Told.{told, Finds}
+use Rattle.path.specs.Told.{told, told_of, Finds}
 use Rattle.path.specs.declared.Line.{Line}
-use Rattle.path.specs.declared.Path.{Path}
-use Rattle.path.specs.declared.Path.TheVariants as Path·variants
+use Rattle.std.specs.Prelude.{Result, Ok, Err}
+use Rattle.path.specs.declared.Differs.{Differs}
 use Rattle.path.proofs.Laws.{loaded-told, differs-told}
 
 -- buffers of bytes, of the lengths of a depth, a formed cache, and a page of the map
@@ -95,18 +95,21 @@ accepts {keys} {line} {b} {m} {h} ok deep =
 -- ---- what walking the path of a page tells
 
 module _ (keys k : List ℕ) (p : ℕ) {h : ℕ} {a c : List ℕ} (z : Sized h a c) (page : p < pages h) (deep : h ≡ depth k) {r : ℕ}
-    (top : r ≡ root k) {w : Path} (walk : w ≡ told (missing c p (suc h)) (load_path h keys a r p c)) where
+    (top : r ≡ root k) where
+  abbrev walked : Result ℕ Differs
+  walked = told (missing c p (suc h)) (load_path h keys a r p c)
+
   as-path : {l : Loaded} → load_path h keys a r p c ≡ l → page_path keys p (buffers a k c) ≡ l
   as-path e = sym (ap₂ {C = Loaded} (λ (n x : ℕ). load_path n keys a x p c) deep top) ∙ e
 
-  pub walk-differs : {l i : ℕ} → w ≡ Path·variants.Differs l i → page_path keys p (buffers a k c) ≡ differs l i
-  walk-differs {l} {i} e =
-      as-path (differs-told h z.flat keys a z.array r p page c z.cache (missing c p (suc h)) l i (sym e ∙ walk))
+  pub walk-differs : {d : Differs} → Err d ≡ walked → page_path keys p (buffers a k c) ≡ differs d.level d.index
+  walk-differs {d} e =
+      as-path (differs-told h z.flat keys a z.array r p page c z.cache (missing c p (suc h)) d e)
 
-  pub walk-loaded : {j : ℕ} → w ≡ Path·variants.Loaded j
+  pub walk-loaded : {j : ℕ} → Ok j ≡ walked
       → (j ≡ missing c p (suc h)) × (page_path keys p (buffers a k c) ≡ loaded (with_path h a p (suc h) c) (path_cells h c p (suc h)))
   walk-loaded {j} e =
-      let both = loaded-told h z.flat keys a z.array r p page c z.cache (missing c p (suc h)) j (sym e ∙ walk) in
+      let both = loaded-told h z.flat keys a z.array r p page c z.cache (missing c p (suc h)) j e in
       (both.0, as-path both.1)
 
 -- the path of a line is loaded, and r has its counter
@@ -118,12 +121,12 @@ pub record Found (h : ℕ) (keys a k c : List ℕ) (line : ℕ) (r : Line) : Typ
 
 module _ {h : ℕ} {keys a k c : List ℕ} {line : ℕ} {r : Line} (y : Ready h a k c (page_of line)) (deep : h ≡ depth k)
     (f : Finds h keys a k c line r) where
-  pub line-differs : {l i : ℕ} → r.path ≡ Path·variants.Differs l i → path_of keys line (buffers a k c) ≡ differs l i
-  line-differs = walk-differs keys k (page_of line) y.sized y.page deep refl f.walked
+  pub line-differs : {d : Differs} → r.path ≡ Err d → path_of keys line (buffers a k c) ≡ differs d.level d.index
+  line-differs e = walk-differs keys k (page_of line) y.sized y.page deep refl (sym e ∙ f.walked)
 
-  pub line-found : {j : ℕ} → r.path ≡ Path·variants.Loaded j → (j ≡ missing c (page_of line) (suc h)) × Found h keys a k c line r
+  pub line-found : {j : ℕ} → r.path ≡ Ok j → (j ≡ missing c (page_of line) (suc h)) × Found h keys a k c line r
   line-found e =
-      let both = walk-loaded keys k (page_of line) y.sized y.page deep refl f.walked e in
+      let both = walk-loaded keys k (page_of line) y.sized y.page deep refl (sym e ∙ f.walked) in
       (both.0, record { ready = y; deep = deep; path = both.1; counter = f })
 
 module _ {h : ℕ} {keys a k c : List ℕ} {line : ℕ} {r : Line} (f : Found h keys a k c line r) where

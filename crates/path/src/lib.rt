@@ -10,16 +10,25 @@ ghost use Rattle.cache.specs.Cache.{cell_content};
 ghost use Rattle.node.specs.Sized.{Sized};
 ghost use Rattle.calls.specs.Path.{load_path};
 ghost use Rattle.call_laws.specs.Walk.{missing as missing_nodes, expected_tag};
-ghost use Rattle.path.specs.Told.{told, refusal_of, Finds};
+ghost use Rattle.path.specs.Told.{told, refusal_at, Finds};
 
-use answer::{Answer, refuse};
+use answer::{Answer, Refusal};
 use memory_map::on_path;
+use words::Word;
 
-// What walking a path finds: how many of its nodes the cache lacks, or the first of those whose tag differs.
-#[derive(Drop)]
-pub enum Path {
-    Loaded { missing: u64 },
-    Differs { level: u64, index: u64 },
+// The first node of a path, from the top, that the cache lacks and whose tag differs.
+#[derive(Clone, Copy, Debug, PartialEq, Eq)]
+pub struct Differs {
+    pub level: u64,
+    pub index: u64,
+}
+
+impl From<Differs> for Answer {
+    ghost from_gives = { λ d a. a ≡ refusal_at d };
+
+    fn from(node: Differs) -> Answer {
+        Refusal::BadNode.at(node.level, node.index)
+    }
 }
 
 // The tag that the node of level l on the path must carry.
@@ -31,7 +40,7 @@ fn expected<'a>(h: usize, array: &'a [u8], cache: &'a [u8], root: u64, p: usize,
         return root;
     }
     let parent = node::current(h, array, cache, l + 1, on_path(p, l + 1));
-    words::load64(parent, 8 * memory_map::child_place(p, l))
+    u64::load(parent, 8 * memory_map::child_place(p, l))
 }
 
 // Whether the array's node of level l on the path carries it.
@@ -54,7 +63,7 @@ fn genuine<'a>(
     tag::node_tag(keys, content, l as u64, i as u64) == expected(h, array, cache, root, p, l)
 }
 
-// Walks the path of page p, top first, and checks each node that the cache lacks.
+// Walks the path of page p, top first, checks each node that the cache lacks, and tells how many those are.
 pub fn walk<'a>(
     h: usize,
     keys: &[u8],
@@ -62,42 +71,31 @@ pub fn walk<'a>(
     cache: &'a [u8],
     root: u64,
     p: usize,
-) -> Path
+) -> Result<u64, Differs>
     requires { (length keys.now ≡ 48) × (Sized h array.now cache.now × (p < pages h)) }
     ensures { result ≡ told (missing_nodes cache.now p (suc h))
         (load_path h keys.now array.now root p cache.now) }
 {
     let mut missing = 0;
-    let mut n = h + 1;
-    while 0 < n {
-        n -= 1;
-        if !node::holds(cache, n, on_path(p, n)) {
+    for n in (0..h + 1).rev() {
+        let i = on_path(p, n);
+        if !node::holds(cache, n, i) {
             if !genuine(h, keys, array, cache, root, p, n) {
-                return Path::Differs {
+                return Err(Differs {
                     level: n as u64,
-                    index: on_path(p, n) as u64,
-                };
+                    index: i as u64,
+                });
             }
             missing += 1;
         }
     }
-    Path::Loaded { missing }
+    Ok(missing)
 }
 
-// The refusal of a path with a node whose tag differs.
-pub fn refused(path: Path) -> Answer
-    ensures { result ≡ refusal_of path }
-{
-    match path {
-        Path::Loaded { missing: _ } => refuse(24, 0, 0),
-        Path::Differs { level, index } => refuse(24, level, index),
-    }
-}
-
-// The path of a line, and the line's counter in the block of its page, where that is.
-#[derive(Drop)]
+// The path of a line, as a walk finds it, and the line's counter in the block of its page, where that is.
+#[derive(Clone, Copy)]
 pub struct Line {
-    pub path: Path,
+    pub path: Result<u64, Differs>,
     pub major: u64,
     pub minor: u64,
 }

@@ -77,8 +77,6 @@ module _ (h : ℕ) (keys a os : List ℕ) (n : ℕ) where
 
   -- the node slots before s are rebuilt, from the cache first
   pub record Renewing (first c : List ℕ) (s : ℕ) : Type 0 where
-    pub least : 4 ≤ s
-    pub most : s ≤ n
     pub full : length c ≡ cache_length h
     pub rest : nodes_from 4 first ≡ nodes_from s c
 
@@ -88,8 +86,6 @@ module _ (h : ℕ) (keys a os : List ℕ) (n : ℕ) where
     unfolding rebuild_nodes
     renewing-next {d} {o} e f l =
         record {
-          least = omega (arith, r.least);
-          most = omega arith;
           full = l;
           rest =
               r.rest ∙ ap (λ (x : List ℕ). rebuild_nodes h keys a s x c) (left-next os n s p size)

@@ -12,6 +12,8 @@ ghost use Rattle.calls.specs.Path.{child_tags};
 ghost use Rattle.calls.specs.Recovery.{rebuild_node, rebuild_nodes};
 ghost use Rattle.forwarding.specs.Rebuild.{Placed};
 
+use words::Word;
+
 // Writes the tags of the eight children of node i of level l + 1, from where they are.
 fn child_tags<'a>(
     h: usize,
@@ -27,13 +29,11 @@ fn child_tags<'a>(
     ensures { out.new
         ≡ child_tags keys.now l (current h array.now image.now l) i }
 {
-    let mut k = 0;
-    while k < 8 {
+    for k in 0..8 {
         let child = 8 * i + k;
         let content = node::current(h, array, image, l, child);
         let tag = tag::node_tag(keys, content, l as u64, child as u64);
-        words::store64(out, 8 * k, tag);
-        k += 1;
+        u64::store(out, 8 * k, tag);
     }
 }
 
@@ -56,14 +56,11 @@ pub fn rebuild_nodes(h: usize, keys: &[u8], array: &[u8], owners: [u64; 10], ima
     ensures { image.new
         ≡ rebuild_nodes h keys.now array.now 4 (drop 4 (take (slots_of h) owners)) image.old }
 {
-    let n = memory_map::slots(h);
-    let mut s = 4;
-    while s < n {
+    for s in 4..memory_map::slots(h) {
         let owner = owners[s] as usize;
         if owner != 0 {
             put_node(h, keys, array, s, owner - 1, image);
         }
-        s += 1;
     }
 }
 

@@ -9,11 +9,16 @@ use lib.ListN.{length, get_or, set, length-set}
 use lib.Seq.{get_or-set_same, get_or-set_other}
 use Rattle.words.specs.Bytes.{to_le, put}
 use Rattle.words.proofs.Order.{lt-eq-gt}
-use Rattle.memory_map.specs.Map.{on_path}
-use Rattle.memory_map.proofs.Laws.{path-bottom}
+use Rattle.memory_map.specs.Map.{pages, on_path, InMap}
+use Rattle.memory_map.specs.Map.Item.{node}
+use Rattle.memory_map.proofs.Laws.{path-bottom, path-node}
 use Rattle.tag.specs.Tag.{node_tag}
 use Rattle.cache.specs.Cache.{current}
 use Rattle.renewal.specs.Renewed.{renewed_tag}
+
+-- the node of a level on the path of a page of the map
+pub path-inside : {h p l i : ℕ} → p < pages h → l ≤ h → i ≡ on_path p l → InMap h (node l i)
+path-inside {h} {p} {l} page low e = subst (λ (j : ℕ). InMap h (node l j)) (sym e) (path-node h p l page low)
 
 -- those of levels 0 to l are known
 pub record Tagging (h : ℕ) (keys a c : List ℕ) (p : ℕ) (b tags : List ℕ) (tag l : ℕ) : Type 0 where

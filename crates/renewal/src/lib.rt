@@ -10,6 +10,7 @@ ghost use Rattle.node.specs.Sized.{Sized};
 ghost use Rattle.renewal.specs.Renewed.{renewed_tag, renewed_by};
 
 use memory_map::{child_place, on_path};
+use words::Word;
 
 // The tags of the path of page p, whose counter block is now the given one: that of level l at l.
 pub fn path_tags<'a>(
@@ -27,20 +28,12 @@ pub fn path_tags<'a>(
     let mut tags = [0u64; 4];
     let mut tag = tag::node_tag(keys, block, 0, p as u64);
     tags[0] = tag;
-    let mut l = 0;
-    while l < h {
+    for l in 0..h {
         let child = child_place(p, l);
-        l += 1;
-        let i = on_path(p, l);
-        tag = tag::changed_tag(
-            keys,
-            node::current(h, array, cache, l, i),
-            child,
-            tag,
-            l as u64,
-            i as u64,
-        );
-        tags[l] = tag;
+        let i = on_path(p, l + 1);
+        let parent = node::current(h, array, cache, l + 1, i);
+        tag = tag::changed_tag(keys, parent, child, tag, (l + 1) as u64, i as u64);
+        tags[l + 1] = tag;
     }
     tags
 }
@@ -52,7 +45,7 @@ fn renew_slot(cache: &mut [u8], s: usize, j: usize, tag: u64)
         (put (content cache.old s) (8 * j) (to_le 8 tag)) }
 {
     cache[73 * s + 8] = 1;
-    words::store64(cache, 73 * s + 9 + 8 * j, tag);
+    u64::store(cache, 73 * s + 9 + 8 * j, tag);
 }
 
 // Renews the path of page p in a cache that has it: the block, with its flag, and above it each node with its child's tag.
@@ -62,11 +55,8 @@ pub fn renew_path(h: usize, p: usize, tags: [u64; 4], block: &[u8], flag: u8, ca
     ensures { cache.new ≡ renewed_by cache.old p block.now flag tags h }
 {
     node::put_slot(cache, slot_map::slot_of(0, p), p as u64 + 1, flag, block);
-    let mut l = 0;
-    while l < h {
-        let j = child_place(p, l);
-        let tag = tags[l];
-        l += 1;
-        renew_slot(cache, slot_map::slot_of(l, on_path(p, l)), j, tag);
+    for l in 0..h {
+        let s = slot_map::slot_of(l + 1, on_path(p, l + 1));
+        renew_slot(cache, s, child_place(p, l), tags[l]);
     }
 }

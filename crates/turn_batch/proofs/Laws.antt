@@ -8,25 +8,37 @@ use native.Mathlib.Numerals.{add-one}
 use native.Mathlib.Omega.{arith}
 use borrow.Author.Tests.{le-leb, lt-leb}
 use lib.ListN.{length, get_or, length-append}
-use Rattle.words.specs.Bytes.{digits}
 use Rattle.bits.specs.Bits.{set_bits}
 use Rattle.bits.proofs.Laws.{bits_none, bits-some}
-use Rattle.memory_map.specs.Map.{pages, array_length, cell_of}
-use Rattle.memory_map.specs.Map.Item.{node}
+use Rattle.memory_map.specs.Map.{pages, array_length}
 use Rattle.memory_map.proofs.Laws.{lines-small}
-use Rattle.control.specs.Control.{Cell, is_open}
-use Rattle.batch.specs.Batch.{cell_with, staged, staged_from}
+use Rattle.words.proofs.Digits.{Below}
+use Rattle.control.specs.Control.{control_length, Cell, is_open}
+use Rattle.cache.specs.Cache.{formed}
+use Rattle.node.specs.Sized.{Sized}
+use Rattle.call_laws.specs.Walk.{missing}
+use Rattle.path.proofs.Ready.{Ready}
+use Rattle.batch.specs.Batch.{staged, staged_from}
 use Rattle.batch.proofs.Laws.{staged-one, staged-append}
 use Rattle.calls.specs.Path.{node_cell}
 use Rattle.calls.specs.Turn.{line_at, block_of, turn_places, turn_front}
 use Rattle.call_laws.proofs.Turn.{line-inside}
 use Rattle.node.proofs.Laws.{line-room}
 
--- a block's cell, whose side bytes are zero
-block-staged : (h p : ℕ) (b : List ℕ) {b' : List ℕ} (allowance n : ℕ) (k : List ℕ) {x : ℕ} → x ≡ cell_of h (node 0 p) → b' ≡ b
-    → staged allowance n (cell_with x b' 0) k ≡ staged allowance n (node_cell h 0 p b) k
-unfolding digits
-block-staged h p b allowance n k e f = ap₂ {C = List ℕ} (λ (y : ℕ) (z : List ℕ). staged allowance n (cell_with y z 0) k) e f
+-- what staging the front asks for, of buffers of bytes
+pub ready : {h : ℕ} {a k c : List ℕ} {p j : ℕ}
+    → Sized h a c × ((formed h c ≡ true) × ((p < pages h) × ((length k ≡ control_length) × (j ≡ missing c p (suc h)))))
+    → Below 256 a → Below 256 k → Below 256 c → Ready h a k c p
+ready q x y z =
+    record {
+      sized = q.0;
+      control = q.1.1.1.0;
+      shaped = q.1.0;
+      page = q.1.1.0;
+      array-bytes = x;
+      control-bytes = y;
+      cache-bytes = z;
+    }
 
 -- the line at place j of page p is in the map
 pub record There (a : List ℕ) (p j : ℕ) : Type 0 where
@@ -68,16 +80,16 @@ module _ (h : ℕ) {k : List ℕ} (c : List ℕ) (p : ℕ) {x : List Cell} {allo
     unfolding turn_front
     front-few q = bare (rw (closed, lt-leb 2 (length (turn_places k c p)) q) (append-nil x))
 
-    pub front-block : 2 ≤ length (turn_places k c p) → (k₂ b : List ℕ) {i : ℕ} → i ≡ cell_of h (node 0 p) → b ≡ block_of c p
-        → k₂ ≡ staged allowance n (cell_with i b 0) k₁ → Fronted h k c p x allowance k₂ (n + 1)
+    pub front-block : 2 ≤ length (turn_places k c p) → (k₂ b : List ℕ) → b ≡ block_of c p → k₂ ≡ staged allowance n (node_cell h 0 p b) k₁
+        → Fronted h k c p x allowance k₂ (n + 1)
     unfolding turn_front
-    front-block q k₂ b e f s =
+    front-block q k₂ b f s =
         let y = node_cell h 0 p (block_of c p) in
         let is : turn_front h k c p x ≡ x ++ (y ∷ []) = rw (closed, le-leb 2 (length (turn_places k c p)) q) in
         let at : n ≡ 0 + length x = g.number ∙ sym (zero-add (length x)) in
         record {
           cells =
-              s ∙ block-staged h p (block_of c p) allowance n k₁ e f ∙ staged-one allowance n y k₁
+              s ∙ ap (λ (z : List ℕ). staged allowance n (node_cell h 0 p z) k₁) f ∙ staged-one allowance n y k₁
               ∙ ap₂ {C = List ℕ} (λ (m : ℕ) (w : List ℕ). staged_from allowance m (y ∷ []) w) at g.cells
               ∙ sym (staged-append allowance 0 x (y ∷ []) k) ∙ ap (λ (z : List Cell). staged_from allowance 0 z k) (sym is);
           number = omega (arith, ap length is, length-append x (y ∷ []));
@@ -95,16 +107,15 @@ one_of [] p q = absurd (omega arith)
 one_of (x ∷ []) p q = refl
 one_of (x ∷ y ∷ xs) p q = absurd (omega arith)
 
-module _ (h p : ℕ) (b : List ℕ) (f : ℕ → Cell) (allowance : ℕ) (k : List ℕ) (n : ℕ) (k₁ : List ℕ) {i : ℕ} (at : i ≡ cell_of h (node 0 p))
-    (block : k₁ ≡ staged allowance n (cell_with i b 0) k) (rest : ℕ) where
+module _ (h p : ℕ) (b : List ℕ) (f : ℕ → Cell) (allowance : ℕ) (k : List ℕ) (n : ℕ) (k₁ : List ℕ)
+    (block : k₁ ≡ staged allowance n (node_cell h 0 p b) k) (rest : ℕ) where
   pub closed_none : rest ≡ 0 → Closed h p b (map f (set_bits rest)) allowance k k₁ n (n + 1)
   unfolding staged_from
   closed_none e =
       let none : set_bits rest ≡ [] = ap set_bits e ∙ bits_none in
       record {
         cells =
-            block ∙ block-staged h p b allowance n k at refl
-            ∙ ap (λ (js : List ℕ). staged_from allowance n (node_cell h 0 p b ∷ map f js) k) (sym none);
+            block ∙ ap (λ (js : List ℕ). staged_from allowance n (node_cell h 0 p b ∷ map f js) k) (sym none);
         number = sym (ap (λ (js : List ℕ). n + suc (length (map f js))) none);
       }
 
@@ -117,7 +128,7 @@ module _ (h p : ℕ) (b : List ℕ) (f : ℕ → Cell) (allowance : ℕ) (k : Li
       record {
         cells =
             g ∙ ap₂ {C = List ℕ} (λ (m : ℕ) (w : List ℕ). staged allowance m (f j) w) (add-one n)
-            (block ∙ block-staged h p b allowance n k at refl)
+            block
             ∙ ap (λ (js : List ℕ). staged_from allowance n (node_cell h 0 p b ∷ map f js) k) (sym one);
         number = sym (ap (λ (js : List ℕ). n + suc (length (map f js))) one);
       }

@@ -33,7 +33,14 @@ pub fn put_line(
     if (n as u64) < allowance {
         let mut text = [0u8; 64];
         let content = node::in_cell(array, line);
-        pad::apply(keys, line as u32, major, minor as u32, content, &mut text);
+        pad::apply(
+            keys,
+            line as u32,
+            major,
+            u32::from(minor),
+            content,
+            &mut text,
+        );
         line_batch::put_data(
             family,
             keys,
@@ -48,38 +55,46 @@ pub fn put_line(
     }
 }
 
+// A page that is to be turned: how many nodes of its path the cache lacks, the major and the minors of its counter block, and as the set
+// bits of a number the places that are still to turn.
+#[derive(Clone, Copy)]
+pub struct PageTurn<'a> {
+    pub p: usize,
+    pub missing: u64,
+    pub major: u64,
+    pub minors: &'a [u8],
+    pub mask: u64,
+}
+
 // Stages what the first batch of a turn starts with: the cells of the path, then, where two lines or more are left of a page that is not
 // open, its counter block as it is. Tells how many cells there are.
 pub fn put_front<'a>(
     h: usize,
     array: &'a [u8],
     cache: &'a [u8],
-    p: usize,
-    missing: u64,
-    mask: u64,
+    t: &PageTurn<'_>,
     control: &mut [u8],
     allowance: u64,
 ) -> usize
-    requires sized { Sized h array.now cache.now × ((formed h cache.now ≡ true) × ((p < pages h)
-        × ((length control.old ≡ control_length) × (missing ≡ missing_nodes cache.now p (suc h))))) }
-    requires mask_value { set_bits mask ≡ turn_places control.old (with_path h array.now p (suc h) cache.now) p }
+    requires sized { Sized h array.now cache.now × ((formed h cache.now ≡ true) × ((t.now.p < pages h)
+        × ((length control.old ≡ control_length) × (t.now.missing ≡ missing_nodes cache.now t.now.p (suc h))))) }
+    requires mask_value { set_bits t.now.mask ≡ turn_places control.old (with_path h array.now t.now.p (suc h) cache.now) t.now.p }
     ensures control_after { control.new ≡ staged_from allowance 0 (turn_front h control.old
-        (with_path h array.now p (suc h) cache.now) p (path_cells h cache.now p (suc h)))
+        (with_path h array.now t.now.p (suc h) cache.now) t.now.p (path_cells h cache.now t.now.p (suc h)))
         control.old }
     ensures value { result ≡ length (turn_front h control.old
-        (with_path h array.now p (suc h) cache.now) p (path_cells h cache.now p (suc h))) }
+        (with_path h array.now t.now.p (suc h) cache.now) t.now.p (path_cells h cache.now t.now.p (suc h))) }
 {
-    let open = control::is_open(control, p as u64);
-    let n = line_batch::put_path(h, cache, p, missing, control, allowance);
+    let open = control::is_open(control, t.p as u64);
+    let n = line_batch::put_path(h, cache, t.p, t.missing, control, allowance);
     if open {
         return n;
     }
-    if bits::remaining(mask) < 2 {
+    if bits::remaining(t.mask) < 2 {
         return n;
     }
-    let cell = memory_map::node_cell(h, 0, p);
-    let block = node::current(h, array, cache, 0, p);
-    batch::put_cell(control, n, allowance, cell, block, 0);
+    let block = node::current(h, array, cache, 0, t.p);
+    line_batch::put_block(h, t.p, block, control, n, allowance);
     n + 1
 }
 
@@ -90,37 +105,34 @@ pub fn put_last(
     family: u64,
     keys: &[u8],
     array: &[u8],
-    p: usize,
-    major: u64,
-    minors: &[u8],
+    t: &PageTurn<'_>,
     block: &[u8],
     rest: u64,
     control: &mut [u8],
     n: usize,
     allowance: u64,
 ) -> usize
-    requires keys_len { (length keys.now ≡ 48) × ((1 ≤ h) × ((h ≤ 3) × ((length array.now ≡ array_length h) × ((p < pages h)
-        × ((suc major < 2 ^ 64) × ((length minors.now ≡ 64) × (length block.now ≡ 64))))))) }
+    requires keys_len { (length keys.now ≡ 48) × ((1 ≤ h) × ((h ≤ 3) × ((length array.now ≡ array_length h) × ((t.now.p < pages h)
+        × ((suc t.now.major < 2 ^ 64) × ((length t.now.minors.now ≡ 64) × (length block.now ≡ 64))))))) }
     requires rest_len_bound { (length (set_bits rest) < 2) × ((length control.old ≡ control_length) × (n < 7)) }
-    ensures control_after { control.new ≡ staged_from allowance n (node_cell h 0 p block.now
-        ∷ map (fresh_line family keys.now array.now p major minors.now) (set_bits rest))
+    ensures control_after { control.new ≡ staged_from allowance n (node_cell h 0 t.now.p block.now
+        ∷ map (fresh_line family keys.now array.now t.now.p t.now.major t.now.minors.now) (set_bits rest))
         control.old }
     ensures value { result ≡ n + suc (length (set_bits rest)) }
 {
-    let cell = memory_map::node_cell(h, 0, p);
-    batch::put_cell(control, n, allowance, cell, block, 0);
+    line_batch::put_block(h, t.p, block, control, n, allowance);
     if rest == 0 {
         return n + 1;
     }
     let j = bits::lowest(rest);
-    let line = 64 * p + j;
-    let minor = minors[j];
+    let line = 64 * t.p + j;
+    let minor = t.minors[j];
     put_line(
         family,
         keys,
         array,
         line,
-        major,
+        t.major,
         minor,
         control,
         n + 1,

@@ -2,12 +2,11 @@
 #![tactic(auto)]
 
 ghost use Rattle.std.specs.Prelude.{◌≡◌, cond, ◌+◌, ◌*◌, ◌≤◌, length};
+ghost use Rattle.std.specs.Iterator.{YieldsFirst, item_count};
 ghost use Rattle.bits.specs.Bits.{set_bits};
 ghost use Rattle.counter.specs.Counter.{written_from};
 ghost use Rattle.control.specs.Control.{control_length, is_open, turn_mask};
 ghost use Rattle.turn_check.specs.FirstBad.{first_bad};
-
-use cache::Found;
 
 // The places still to turn, as set bits: of an open page those of its mask, else those of the written lines.
 pub fn places(control: &[u8], p: usize, minors: &[u8]) -> u64
@@ -21,10 +20,25 @@ pub fn places(control: &[u8], p: usize, minors: &[u8]) -> u64
     turn_block::written_mask(minors)
 }
 
-fn wide(x: u8) -> u64
-    ensures { result ≡ x }
-{
-    x as u64
+// The set bits of a number, the lowest first.
+#[derive(Drop)]
+struct SetBits(u64);
+
+impl Iterator for SetBits {
+    type Item = usize;
+
+    ghost next_gives = { YieldsFirst (λ s. set_bits s.0) };
+
+    ghost remaining = { item_count (λ s. set_bits s.0) };
+
+    fn next(&mut self) -> Option<usize> {
+        if self.0 == 0 {
+            return None;
+        }
+        let j = bits::lowest(self.0);
+        self.0 = bits::without_lowest(self.0);
+        Some(j)
+    }
 }
 
 // The first of these lines of page p whose minor is 0, or whose data cell has other side bytes.
@@ -36,22 +50,16 @@ pub fn bad_line(
     major: u64,
     minors: &[u8],
     mask: u64,
-) -> Found
+) -> Option<usize>
     requires { (length keys.now ≡ 48) × ((72 * (64 * p + 64) ≤ length array.now) × (length minors.now ≡ 64)) }
     ensures { result ≡ first_bad family keys.now array.now p major minors.now (set_bits mask) }
 {
-    let mut left = mask;
-    while 0 < left {
-        let j = bits::lowest(left);
+    for j in SetBits(mask) {
         let line = 64 * p + j;
-        let minor = wide(minors[j]);
-        if minor == 0 {
-            return Found::At(line);
+        let minor = u64::from(minors[j]);
+        if minor == 0 || !line_text::side_ok(family, keys, array, line, major, minor) {
+            return Some(line);
         }
-        if !line_text::side_ok(family, keys, array, line, major, minor) {
-            return Found::At(line);
-        }
-        left = bits::without_lowest(left);
     }
-    Found::Nothing
+    None
 }

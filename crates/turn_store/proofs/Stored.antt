@@ -1,6 +1,6 @@
 -- The stores of a turn and the cache after them, as the turn's definition says it. Assumes nothing.
 use mathlib.Core.Path.{◌≡◌, refl, sym, ap, ap₂, ◌∙◌}
-use mathlib.Core.Bool.{true, false}
+use mathlib.Core.Bool.{Bool, true, false}
 use mathlib.Core.List.{List, map, Memᴰ}
 use Prim.Native.Nat.{ℕ, suc, ◌/◌, ◌≤◌}
 use native.Mathlib.Nat.{le_refl}
@@ -16,7 +16,7 @@ use Rattle.turn_block.proofs.Laws.{length-turned}
 use Rattle.answer.specs.declared.Answer.TheVariants.{Done, Cut}
 use Rattle.control.specs.Control.{Cell, family, depth, root}
 use Rattle.cache.specs.Cache.{cell_content, holds, current}
-use Rattle.cache.specs.declared.Found.TheVariants.{Nothing}
+use Rattle.std.specs.Prelude.{None}
 use Rattle.journal.specs.Journal.{Store, Media, media}
 use Rattle.journal.proofs.Each.{Each}
 use Rattle.journal.proofs.Kept.{Within}
@@ -35,8 +35,7 @@ use Rattle.call_laws.proofs.Turn.{stores-within, stores-avoid}
 use Rattle.path.proofs.Ready.{Ready, fit, few, block-loaded}
 use Rattle.renewal.specs.Renewed.{renewed_tag, renewed_by}
 use Rattle.line_store.proofs.Renewed.{root-renewed, same-renewed}
-use Rattle.turn_store.specs.Page.{Page, page_stores, Makes}
-use Rattle.turn_store.specs.declared.Made.{Made}
+use Rattle.turn_store.specs.Page.{Page, page_stores, Made}
 
 module _ {h : ℕ} {a k c : List ℕ} {p missing ma : ℕ} {ms : List ℕ} {mask : ℕ} (y : Ready h a k c p) (g : Page h a k c p missing ma ms mask)
     (keys : List ℕ) where
@@ -99,7 +98,7 @@ module _ {h : ℕ} {a k c : List ℕ} {p missing ma : ℕ} {ms : List ℕ} {mask
 
   module _ (deep : h ≡ depth k) (allowance : ℕ) where
     abbrev called : Called
-    called = turn_checked keys p allowance (buffers a k c) d x Nothing
+    called = turn_checked keys p allowance (buffers a k c) d x None
 
     called_is : storing allowance (buffers a k c) xs (Done (length xs) 0) (renew_path keys d p new 0 h) ≡ called
     unfolding turn_checked turn_batches turned_cache page_stores
@@ -115,10 +114,10 @@ module _ {h : ℕ} {a k c : List ℕ} {p missing ma : ℕ} {ms : List ℕ} {mask
           root-renewed y keys new (length-turned (current h a c 0 p)) tags known
           ∙ ap (λ (b : List ℕ). renewed_root h keys d p (turned b)) (sym (block-loaded y))
 
-      module _ {a' k' : List ℕ} {r : Made} (m : Makes allowance xs (media a k) (media a' k') r) where
-        pub page-cut : r.whole ≡ false → ended (Cut r.stores) a' k' c ≡ called
+      module _ {a' k' : List ℕ} {told : ℕ} {w : Bool} (m : Made allowance xs (media a k) (media a' k') told w) where
+        pub page-cut : w ≡ false → ended (Cut told) a' k' c ≡ called
         page-cut e =
-            storing-cut allowance (buffers a k c) xs (Done (length xs) 0) (renew_path keys d p new 0 h) a' k' r.stores m.stored
+            storing-cut allowance (buffers a k c) xs (Done (length xs) 0) (renew_path keys d p new 0 h) a' k' told m.stored
             (leb-false _ _ (sym m.all ∙ e))
             ∙ called_is
 
@@ -131,13 +130,13 @@ module _ {h : ℕ} {a k c : List ℕ} {p missing ma : ℕ} {ms : List ℕ} {mask
             (record { array-length = refl; control_length = y.control; array-bytes = y.array-bytes; control-bytes = y.control-bytes })
             within (stores-avoid (n l up lh) (spare l up lh e))
 
-        pub page-done : length a' ≡ length a → r.whole ≡ true → (c' : List ℕ) → c' ≡ renewed_by (with_path h a' p (suc h) c) p new 0 tags h
-            → ended (Done r.stores 0) a' k' c' ≡ called
+        pub page-done : length a' ≡ length a → w ≡ true → (c' : List ℕ) → c' ≡ renewed_by (with_path h a' p (suc h) c) p new 0 tags h
+            → ended (Done told 0) a' k' c' ≡ called
         page-done same e c' f =
             let b = buffers a k c in
             let e' = renew_path keys d p new 0 h in
-            let whole : length xs ≤ r.stores = leb-true _ _ (sym m.all ∙ e) in
+            let whole : length xs ≤ told = leb-true _ _ (sym m.all ∙ e) in
             ap₂ {C = Called} (λ (i : ℕ) (l : List ℕ). ended (Done i 0) a' k' l)
-            (all_told allowance b xs (Done (length xs) 0) e' a' k' r.stores m.stored whole)
+            (all_told allowance b xs (Done (length xs) 0) e' a' k' told m.stored whole)
             (f ∙ same-renewed y keys new (length-turned (current h a c 0 p)) tags known a' same kept 0)
-            ∙ storing-done allowance b xs (Done (length xs) 0) e' a' k' r.stores m.stored whole ∙ called_is
+            ∙ storing-done allowance b xs (Done (length xs) 0) e' a' k' told m.stored whole ∙ called_is

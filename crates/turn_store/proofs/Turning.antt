@@ -1,6 +1,6 @@
 -- The batches of a turn, made one after the other under an allowance. Assumes nothing.
 use mathlib.Core.Path.{◌≡◌, refl, sym, ap, ap₂, ◌∙◌, subst, subst₂}
-use mathlib.Core.Bool.{true}
+use mathlib.Core.Bool.{Bool, true}
 use mathlib.Core.Logic.{◌⊎◌, inl, inr}
 use mathlib.Core.List.{List, [], ◌∷◌, ◌++◌, map, append-nil, Memᴰ}
 use Prim.Native.Nat.{ℕ, suc, ◌+◌, ◌-◌, ◌*◌, ◌/◌, ◌^◌, ◌≤◌, ◌<◌, zero-le}
@@ -10,6 +10,7 @@ use lib.Dec.{leb}
 use borrow.Author.Tests.{le-leb, lt-leb}
 use lib.ListN.{length, get_or, drop, length-append, length-take, length-map}
 use lib.Seq.{drop-cons}
+use Rattle.words.proofs.Digits.{Below}
 use Rattle.words.proofs.Order.{lt-or-ge}
 use Rattle.bits.specs.Bits.{set_bits}
 use Rattle.bits.proofs.Climbs.{Climbs, climbs-mem, climbs-tail}
@@ -39,7 +40,7 @@ use Rattle.call_laws.proofs.Turn.{Proper, front-sound, front-spares, front-few, 
 use Rattle.call_laws.proofs.Turn.{batch-within, batch-then, block-line, line-inside}
 use Rattle.path.proofs.Ready.{Ready, fit, few, block-loaded}
 use Rattle.turn_batch.specs.Fresh.{fresh_line}
-use Rattle.turn_store.specs.Page.{Page, page_stores, Makes}
+use Rattle.turn_store.specs.Page.{Page, page_stores, Made}
 use Rattle.turn_store.proofs.Fresh.{fresh-turned, all-turned}
 
 pub some_bits : (x : ℕ) → 0 < length (set_bits x) → 0 < x
@@ -73,6 +74,27 @@ pub record Begins (h : ℕ) (a k c : List ℕ) (p missing ma : ℕ) (ms : List �
       ≡ staged_from allowance 0 (turn_front h k (with_path h a p (suc h) c) p (path_cells h c p (suc h))) k
   pub number : cells ≡ length (turn_front h k (with_path h a p (suc h) c) p (path_cells h c p (suc h)))
   pub size : length control ≡ control_length
+
+pub ready : {h : ℕ} {a k c : List ℕ} {p missing ma : ℕ} {ms : List ℕ} {mask : ℕ} → Page h a k c p missing ma ms mask
+    → Below 256 a → Below 256 k → Below 256 c → Ready h a k c p
+ready g x y z =
+    record {
+      sized = g.sized;
+      control = g.control;
+      shaped = g.shaped;
+      page = g.page;
+      array-bytes = x;
+      control-bytes = y;
+      cache-bytes = z;
+    }
+
+pub begins : {h : ℕ} {a k c : List ℕ} {p missing ma : ℕ} {ms : List ℕ} {mask allowance : ℕ} {control : List ℕ} {cells : ℕ}
+    → (g : Page h a k c p missing ma ms mask) → Below 256 a → Below 256 k → Below 256 c
+    → control ≡ staged_from allowance 0 (turn_front h k (with_path h a p (suc h) c) p (path_cells h c p (suc h))) k
+    → cells ≡ length (turn_front h k (with_path h a p (suc h) c) p (path_cells h c p (suc h))) → length control ≡ length k
+    → Begins h a k c p missing ma ms mask allowance control cells
+begins g x y z staged number size =
+    record { page = g; ready = ready g x y z; staged = staged; number = number; size = size ∙ g.control }
 
 -- the stores of the batches that turn these places, the first of which starts with the cells front
 abbrev pub stores_of : ℕ → ℕ → List ℕ → List ℕ → List ℕ → ℕ → ℕ → List Cell → List ℕ → List Store
@@ -371,11 +393,9 @@ module _ (f : ℕ) (keys : List ℕ) (r : ℕ) {h : ℕ} {a k c : List ℕ} {p m
               go (inr q) =
                   le-leb (2 * n + 3) told q ∙ sym (le-leb all sum (omega (arith, t.whole (omega (arith, last-few)), last-length)))
 
-          pub turned-makes : f ≡ family k → r ≡ root k
-              → Makes allowance (page_stores h keys a k c p) (media a k) (media array₂ control₂)
-              (record { stores = allowance - left + told; whole = leb (2 * n + 3) told })
+          pub turned-makes : f ≡ family k → r ≡ root k → {w : Bool} → leb (2 * n + 3) told ≡ w
+              → Made allowance (page_stores h keys a k c p) (media a k) (media array₂ control₂) (allowance - left + told) w
           unfolding page_stores
-          turned-makes i e =
-              subst₂ (λ (u x : ℕ). Makes allowance (all_stores h u keys a k c p x) (media a k) (media array₂ control₂)
-              (record { stores = allowance - left + told; whole = leb (2 * n + 3) told }))
-              i e (record { stored = turned-stores; all = turned-all })
+          turned-makes i e {w} q =
+              subst₂ (λ (u x : ℕ). Made allowance (all_stores h u keys a k c p x) (media a k) (media array₂ control₂) (allowance - left + told) w)
+              i e (record { stored = turned-stores; all = sym q ∙ turned-all })

@@ -5,65 +5,58 @@ use native.Mathlib.Omega.{arith}
 use Rattle.memory_map.specs.Map.{pages}
 use Rattle.slot_map.specs.Slots.{cache_length}
 use Rattle.control.specs.Control.{depth}
-use Rattle.calls.specs.Call.{Module, buffers}
-use Rattle.call_laws.proofs.Judged.{Opened, recovery-opened, turn-first, turn-past, turn-pending, turn_on, head_of}
-use Rattle.access.proofs.Laws.{at-depth}
+use Rattle.call_laws.proofs.Judged.{recovery-opened, turn-first, turn-past, turn-pending, turn_on, head_of}
+use Rattle.std.proofs.lemmas.Result.{err_from_is_err_and}
+use Rattle.access.proofs.Laws.{some-number, at-depth}
 use Rattle.access.proofs.turning.Goals as goal
 
-pub returns-then-number-ne0 : goal.returns-then-number-ne0
-returns-then-number-ne0 c = turn-first _ _ _ c.opening-number.ensures c.if-number-ne0.true
+pub returns-in_err-opening : goal.returns-in_err-opening
+returns-in_err-opening c =
+    let gives = err_from_is_err_and c.from_residual.result c.from_residual.ensures.1 in
+    rw (gives.1, gives.2) (turn-first _ _ _ c.in_err-opening.ensures (some-number _))
 
 pub depth-h-requires : goal.depth-h-requires
 depth-h-requires c =
-    let given : Module = buffers c.args.array.now c.args.control.now c.args.cache.now in
-    let opened : Opened c.args.keys.now given = recovery-opened _ _ (sym c.opening-number.ensures ∙ c.if-number-ne0.false) in
+    let opened = recovery-opened _ _ (sym c.in_ok-opening.ensures) in
     opened.control_length
 
 pub pages-requires : goal.pages-requires
 pages-requires c =
-    let given : Module = buffers c.args.array.now c.args.control.now c.args.cache.now in
-    let opened : Opened c.args.keys.now given = recovery-opened _ _ (sym c.opening-number.ensures ∙ c.if-number-ne0.false) in
-    let deep : (1 ≤ c.depth-h.result) × (c.depth-h.result ≤ 3) = let head = head_of _ _ opened in omega (arith, c.depth-h.ensures, head.deep, head.flat) in
-    deep
+    let opened = recovery-opened _ _ (sym c.in_ok-opening.ensures) in
+    let head = head_of _ _ opened in omega (arith, c.depth-h.ensures, head.deep, head.flat)
 
 pub returns-then-pages-page : goal.returns-then-pages-page
 returns-then-pages-page c =
-    let given : Module = buffers c.args.array.now c.args.control.now c.args.cache.now in
-    let opened : Opened c.args.keys.now given = recovery-opened _ _ (sym c.opening-number.ensures ∙ c.if-number-ne0.false) in
+    let opened = recovery-opened _ _ (sym c.in_ok-opening.ensures) in
     let pages-are : c.pages.result ≡ pages (depth c.args.control.now) = c.pages.ensures ∙ ap pages c.depth-h.ensures in
     turn-past _ _ _ opened (rw (← pages-are) c.if-pages-page.true)
 
 pub count-requires : goal.count-requires
 count-requires c =
-    let given : Module = buffers c.args.array.now c.args.control.now c.args.cache.now in
-    let opened : Opened c.args.keys.now given = recovery-opened _ _ (sym c.opening-number.ensures ∙ c.if-number-ne0.false) in
+    let opened = recovery-opened _ _ (sym c.in_ok-opening.ensures) in
     opened.control_length
 
 pub returns-then-count-gt0 : goal.returns-then-count-gt0
 returns-then-count-gt0 c =
-    let given : Module = buffers c.args.array.now c.args.control.now c.args.cache.now in
-    let opened : Opened c.args.keys.now given = recovery-opened _ _ (sym c.opening-number.ensures ∙ c.if-number-ne0.false) in
+    let opened = recovery-opened _ _ (sym c.in_ok-opening.ensures) in
     let pages-are : c.pages.result ≡ pages (depth c.args.control.now) = c.pages.ensures ∙ ap pages c.depth-h.ensures in
     let inside : c.args.page < pages (depth c.args.control.now) = omega (arith, pages-are, c.if-pages-page.false) in
     turn-pending _ _ _ opened inside (λ e. omega (arith, c.count.ensures, c.if-count-gt0.true))
 
 pub other_open-requires : goal.other_open-requires
 other_open-requires c =
-    let given : Module = buffers c.args.array.now c.args.control.now c.args.cache.now in
-    let opened : Opened c.args.keys.now given = recovery-opened _ _ (sym c.opening-number.ensures ∙ c.if-number-ne0.false) in
+    let opened = recovery-opened _ _ (sym c.in_ok-opening.ensures) in
     opened.control_length
 
 pub state-requires : goal.state-requires
 state-requires c =
-    let given : Module = buffers c.args.array.now c.args.control.now c.args.cache.now in
-    let opened : Opened c.args.keys.now given = recovery-opened _ _ (sym c.opening-number.ensures ∙ c.if-number-ne0.false) in
+    let opened = recovery-opened _ _ (sym c.in_ok-opening.ensures) in
     let deep : (1 ≤ c.depth-h.result) × (c.depth-h.result ≤ 3) = let head = head_of _ _ opened in omega (arith, c.depth-h.ensures, head.deep, head.flat) in
     (deep.0, (deep.1, opened.fits.cache ∙ ap cache_length (sym c.depth-h.ensures)))
 
 pub returns : goal.returns
 returns c =
-    let given : Module = buffers c.args.array.now c.args.control.now c.args.cache.now in
-    let opened : Opened c.args.keys.now given = recovery-opened _ _ (sym c.opening-number.ensures ∙ c.if-number-ne0.false) in
+    let opened = recovery-opened _ _ (sym c.in_ok-opening.ensures) in
     let pages-are : c.pages.result ≡ pages (depth c.args.control.now) = c.pages.ensures ∙ ap pages c.depth-h.ensures in
     let inside : c.args.page < pages (depth c.args.control.now) = omega (arith, pages-are, c.if-pages-page.false) in
     turn_on _ _ _ opened inside (omega (arith, c.count.ensures, c.if-count-gt0.false))

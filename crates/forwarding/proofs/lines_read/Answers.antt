@@ -3,8 +3,8 @@ use mathlib.Core.Path.{sym, ap, ◌∙◌}
 use mathlib.Core.Bool.{Bool, cond}
 use Rattle.forwarding.proofs.lines_read.Goals as goal
 
-pub returns-then-is_open : goal.returns-then-is_open
-returns-then-is_open c = ap (λ (b : Bool). cond b 0 64) (sym c.if-is_open.true ∙ c.is_open.ensures)
+pub returns-then-open-clause-value : goal.returns-then-open-clause-value
+returns-then-open-clause-value c = ap (λ (b : Bool). cond b 0 64) (sym c.if-open.true ∙ c.is_open-open.ensures)
 
-pub returns : goal.returns
-returns c = ap (λ (b : Bool). cond b 0 64) (sym c.if-is_open.false ∙ c.is_open.ensures)
+pub returns-else-open-clause-value : goal.returns-else-open-clause-value
+returns-else-open-clause-value c = ap (λ (b : Bool). cond b 0 64) (sym c.if-open.false ∙ c.is_open-open.ensures)

@@ -16,5 +16,5 @@ pub returns : goal.returns
 returns c =
     let block = counter_block c.args.major c.args.minors.now in
     c.pack.ensures
-    ∙ ap (λ (x : List ℕ). put (set x (73 * c.args.s + 8) _) (73 * c.args.s + 9) block) c.store64.ensures
+    ∙ ap (λ (x : List ℕ). put (set x (73 * c.args.s + 8) _) (73 * c.args.s + 9) block) c.store.ensures
     ∙ block-put c.args.image.now c.args.s c.args.owner _ c.args.major c.args.minors.now c.requires.s_in_bounds.0

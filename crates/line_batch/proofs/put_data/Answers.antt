@@ -19,9 +19,9 @@ returns-then-n-allowance c =
     let x = line_cell c.args.family c.args.keys.now c.args.line c.args.text.now c.args.major c.args.minor in
     let full = line-cell-length c.args.family c.args.keys.now c.args.line c.args.text.now c.args.major c.args.minor c.requires.1.1.0 in
     let wide : 72 ≡ place_at c.args.n + 80 - (place_at c.args.n + 8) = omega arith in
-    part-put c.store64.new.s (place_at c.args.n + 8) c.seal.new.cell
+    part-put c.store.new.s (place_at c.args.n + 8) c.seal.new.cell
     (place_at c.args.n + 80 - (place_at c.args.n + 8)) (ap length c.seal.ensures ∙ full ∙ wide)
-    ∙ ap₂ {C = List ℕ} (λ (k b : List ℕ). put k (place_at c.args.n + 8) b) c.store64.ensures c.seal.ensures
+    ∙ ap₂ {C = List ℕ} (λ (k b : List ℕ). put k (place_at c.args.n + 8) b) c.store.ensures c.seal.ensures
     ∙ line-put c.args.control.now c.args.n c.args.allowance x c.requires.1.1.1.1.0 c.requires.1.1.1.1.1 c.if-n-allowance.true full
     (place_at c.args.n) refl
 

@@ -1,10 +1,14 @@
 -- `line_store::block_flag` meets its contract. Assumes nothing.
-use Prim.Native.Nat.{◌%◌}
-use borrow.Author.Tests.{eq-eqb, ne_eqb}
+use mathlib.Core.Path.{◌≡◌}
+use mathlib.Core.Bool.{Bool, true, false, not, cond}
+use Prim.Native.Nat.{ℕ, ◌%◌}
+use lib.Dec.{eqb}
+use Rattle.std.specs.Int.{from_bool}
 use Rattle.line_store.proofs.block_flag.Goals as goal
 
-pub returns-then-minor-eq0 : goal.returns-then-minor-eq0
-returns-then-minor-eq0 c = rw (eq-eqb (c.args.minor % 4) 0 c.if-minor-eq0.true)
+by-test : (t : Bool) {n : ℕ} → n ≡ from_bool (not t) → n ≡ cond t 0 1
+by-test true e = e
+by-test false e = e
 
 pub returns : goal.returns
-returns c = rw (ne_eqb (c.args.minor % 4) 0 c.if-minor-eq0.false)
+returns c = by-test (eqb (c.args.minor % 4) 0) c.from.ensures

@@ -1,9 +1,7 @@
 -- `line_text::give` meets its contract. Assumes nothing.
 use mathlib.Core.Path.{sym, ap, ◌∙◌}
 use mathlib.Core.Bool.{Bool, cond}
-use mathlib.Core.List.{List}
-use Prim.Native.Nat.{ℕ}
-use borrow.Author.Tests.{eq-eqb, ne_eqb}
+use borrow.Author.Tests.{eq-eqb}
 use lib.ListN.{length}
 use Rattle.words.proofs.Parts.{put_all}
 use Rattle.pad.specs.Pad.{pad, xor_bytes}
@@ -34,13 +32,3 @@ apply-requires c = (
     c.requires.1.1.1.1,
   ),
 )
-
-pub returns : goal.returns
-returns c =
-    let t = ne_eqb c.args.minor 0 c.if-minor-eq0.false in
-    record {
-      value = ap (λ (b : Bool). cond b (Blank c.args.stores) (Done c.args.stores 0)) (sym t);
-      out_after = c.apply.ensures ∙ ap (λ (b : List ℕ). xor_bytes b (pad c.args.keys.now c.args.line c.args.major c.args.minor)) c.in_cell.ensures
-          ∙ ap (λ (b : Bool). cond b blank_text
-          (xor_bytes (cell_content c.args.array.now c.args.line) (pad c.args.keys.now c.args.line c.args.major c.args.minor))) (sym t);
-    }

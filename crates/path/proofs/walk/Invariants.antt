@@ -1,10 +1,5 @@
-use Prim.Native.Nat.{◌-◌}
-use Rattle.call_laws.specs.Walk.{missing}
 use Rattle.path.proofs.Laws.{Walking}
 use Rattle.path.proofs.walk.Given as goal
 
 abbrev pub invariant-loop-n : goal.invariant-loop-n
 invariant-loop-n l = Walking l.h l.keys l.array l.cache l.root l.p l.missing l.n
-
-abbrev pub decreases-loop-n : goal.decreases-loop-n
-decreases-loop-n l = l.n

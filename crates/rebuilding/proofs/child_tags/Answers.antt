@@ -1,6 +1,6 @@
 -- `rebuilding::child_tags` stores the tags of the eight children, one by one. Assumes nothing.
 use mathlib.Core.Path.{◌≡◌, ap, ◌∙◌}
-use Prim.Native.Nat.{◌+◌, ◌-◌, ◌*◌, ◌<◌, zero-le}
+use Prim.Native.Nat.{◌+◌, ◌*◌, ◌<◌}
 use native.Mathlib.Omega.{arith}
 use lib.ListN.{length}
 use Rattle.memory_map.specs.Map.{InMap}
@@ -11,7 +11,7 @@ use Rattle.rebuilding.proofs.Nodes.{tagged-none, tagged-next, tagged-all}
 use Rattle.rebuilding.proofs.child_tags.Goals as goal
 
 pub loop-k-init : goal.loop-k-init
-loop-k-init c = (zero-le, tagged-none c.args.keys.now c.args.l _ c.args.i c.args.out.now c.requires.1.1.1)
+loop-k-init c = tagged-none c.args.keys.now c.args.l _ c.args.i c.args.out.now c.requires.1.1.1
 
 pub overflow_mul-child : goal.overflow_mul-child
 overflow_mul-child c =
@@ -33,18 +33,12 @@ node_tag-tag-requires c =
     let inside : InMap c.args.h (node c.args.l (8 * c.args.i + c.loop-k.k)) = child-node c.args.h c.args.l c.args.i c.requires.1.1.0 _ (omega arith) in
     (c.requires.0, ap length c.current-content.ensures ∙ current-length c.args.l _ c.requires.1.0 inside)
 
-pub store64-requires : goal.store64-requires
-store64-requires c = omega (arith, c.loop-k.invariant.1.full)
-
 pub loop-k-preserved : goal.loop-k-preserved
-loop-k-preserved c = (
-  omega arith,
-  tagged-next c.args.keys.now c.args.l _ c.args.i c.args.out.now c.requires.1.1.1 c.loop-k.invariant.1
-      c.loop-k-test.true c.current-content.ensures c.node_tag-tag.ensures c.store64.ensures
-      c.store64.auto.s,
-)
+loop-k-preserved c =
+    tagged-next c.args.keys.now c.args.l _ c.args.i c.args.out.now c.requires.1.1.1 c.loop-k.invariant
+    c.loop-k-test.true c.current-content.ensures c.node_tag-tag.ensures c.store.ensures c.store.auto.s
 
 pub returns : goal.returns
 returns c =
     let all : c.loop-k.k ≡ 8 = omega arith in
-    tagged-all c.args.keys.now c.args.l _ c.args.i c.args.out.now c.requires.1.1.1 c.loop-k.invariant.1 all
+    tagged-all c.args.keys.now c.args.l _ c.args.i c.args.out.now c.requires.1.1.1 c.loop-k.invariant all

@@ -1,9 +1,5 @@
-use Prim.Native.Nat.{◌-◌}
 use Rattle.renewal.proofs.Tagging.{Tagging}
 use Rattle.renewal.proofs.path_tags.Given as goal
 
 abbrev pub invariant-loop-l : goal.invariant-loop-l
 invariant-loop-l l = Tagging l.h l.keys l.array l.cache l.p l.block l.tags l.tag l.l
-
-abbrev pub decreases-loop-l : goal.decreases-loop-l
-decreases-loop-l l = l.h - l.l

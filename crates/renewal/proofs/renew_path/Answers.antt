@@ -1,12 +1,11 @@
 -- `renewal::renew_path` meets its contract. Assumes nothing.
 use mathlib.Core.Path.{◌≡◌, refl, sym, ap, ◌∙◌}
-use Prim.Native.Nat.{◌+◌, ◌-◌, zero-le}
+use Prim.Native.Nat.{◌+◌, zero-le}
 use native.Mathlib.Omega.{arith}
 use lib.ListN.{length}
 use Rattle.memory_map.proofs.Laws.{nodes-small, nodes-bottom}
 use Rattle.slot_map.proofs.Laws.{slot-within}
-use Rattle.slot_map.specs.Slots.{cache_length, slot_of}
-use Rattle.memory_map.specs.Map.{on_path}
+use Rattle.slot_map.specs.Slots.{cache_length}
 use Rattle.cache.proofs.Laws.{slot-room}
 use Rattle.renewal.specs.Renewed.{renewed_by}
 use Rattle.renewal.proofs.Renewing.{renewed-length, renew-first, renew-next}
@@ -22,9 +21,6 @@ put_slot-requires c = (
   c.requires.le_h.1.1.1.1,
 )
 
-pub loop-l-init : goal.loop-l-init
-loop-l-init c = (zero-le, λ x sized held e. e)
-
 pub renew_slot-requires : goal.renew_slot-requires
 renew_slot-requires c =
     let renewed : c.loop-l.cache ≡ renewed_by c.args.cache.now c.args.p c.args.block.now c.args.flag c.args.tags c.loop-l.l = c.loop-l.invariant.1 c.args.cache.now c.requires.le_h.1.1.0 c.requires.by_index
@@ -34,10 +30,10 @@ renew_slot-requires c =
     let size : length c.loop-l.cache ≡ cache_length c.args.h = ap length renewed
     ∙ renewed-length c.args.h c.args.cache.now c.requires.le_h.1.1.0 c.args.p c.args.block.now c.requires.le_h.1.1.1.1 c.args.flag c.args.tags
     c.loop-l.l c.loop-l.invariant.0 in (
-      slot-room c.args.h c.slot_of-in-loop-l.result c.loop-l.cache size
+      slot-room c.args.h c.slot_of-s.result c.loop-l.cache size
           (omega (
             arith,
-            c.slot_of-in-loop-l.ensures,
+            c.slot_of-s.ensures,
             slot-within c.args.h (c.loop-l.l + 1) c.on_path.result
                 (omega (arith, c.loop-l-test.true)),
           )),
@@ -51,8 +47,8 @@ loop-l-preserved c = (
       c.renew_slot.ensures
       ∙ renew-next c.args.h x sized c.args.p c.args.block.now c.requires.le_h.1.1.1.1 c.args.flag c.args.tags c.loop-l.l
       (omega (arith, c.loop-l-test.true)) held c.loop-l.cache (c.loop-l.invariant.1 x sized held e)
-      c.on_path.result c.slot_of-in-loop-l.result c.child_place-j.result _ c.on_path.ensures
-      c.slot_of-in-loop-l.ensures c.child_place-j.ensures refl,
+      c.on_path.result c.slot_of-s.result c.child_place.result _ c.on_path.ensures
+      c.slot_of-s.ensures c.child_place.ensures refl,
 )
 
 pub returns : goal.returns

@@ -32,6 +32,7 @@ returns-then-n-allowance c =
     ∙ ap₂ {C = List ℕ} (λ (text : List ℕ) (ma : ℕ).
     staged c.args.allowance c.args.n (line_cell c.args.family c.args.keys.now c.args.line text ma 1) c.args.control.now)
     (c.apply.ensures
+    ∙ ap (λ (m : ℕ). xor_bytes c.in_cell-content.result.now (pad c.args.keys.now c.args.line c.args.major m)) c.from.ensures
     ∙ ap (λ (b : List ℕ). xor_bytes b (pad c.args.keys.now c.args.line c.args.major c.args.minor)) c.in_cell-content.ensures)
     (add-one c.args.major)
 

@@ -1,19 +1,15 @@
 -- `turn_store::run_batches` meets its contract. Assumes nothing.
 use mathlib.Core.Path.{ap, ◌∙◌}
-use Prim.Native.Nat.{◌+◌, ◌≤◌, ◌<◌}
+use Prim.Native.Nat.{◌≤◌, ◌<◌}
 use native.Mathlib.Omega.{arith}
+use borrow.Author.Tests.{le-leb, lt-leb}
 use lib.ListN.{length}
 use Rattle.bits.specs.Bits.{set_bits}
 use Rattle.turn_block.proofs.Laws.{length-turned}
-use Rattle.journal.proofs.Turns.{ran-few}
-use Rattle.path.proofs.Ready.{Ready}
-use Rattle.turn_batch.proofs.Laws.{There, line-there}
-use Rattle.turn_store.proofs.Turning.{Begins, Turning, turning-none, some_bits, split, Runs, line-runs, turning-more}
+use Rattle.turn_batch.proofs.Laws.{line-there}
+use Rattle.turn_store.proofs.Turning.{begins, turning-none, some_bits, line-runs, turning-more}
 use Rattle.turn_store.proofs.Turning.{minors-size, last_runs, turned-makes}
 use Rattle.turn_store.proofs.run_batches.Goals as goal
-
-pub put_front-held-requires : goal.put_front-held-requires
-put_front-held-requires c = record { sized = (c.requires.keys_len.1.sized, (c.requires.keys_len.1.shaped, (c.requires.keys_len.1.page, (c.requires.keys_len.1.control, c.requires.keys_len.1.path)))); mask_value = c.requires.keys_len.1.places }
 
 pub loop-j-init : goal.loop-j-init
 loop-j-init c = λ k g. turning-none _ c.args.keys.now _ g
@@ -25,73 +21,34 @@ lowest-j-requires c =
 
 pub overflow_mul-line : goal.overflow_mul-line
 overflow_mul-line c =
-    let ready : Ready c.args.h c.args.array.now c.args.control.now c.args.cache.now c.args.p = record {
-      sized = c.requires.keys_len.1.sized;
-      control = c.requires.keys_len.1.control;
-      shaped = c.requires.keys_len.1.shaped;
-      page = c.requires.keys_len.1.page;
-      array-bytes = record { at = λ i. (c.slice_known-2-1.given i).fits };
-      control-bytes = record { at = λ i. (c.slice_known-1.given i).fits };
-      cache-bytes = record { at = λ i. (c.type_inv.cache i).fits };
-    } in
-    let begins : Begins c.args.h c.args.array.now c.args.control.now c.args.cache.now c.args.p c.args.missing c.args.major c.args.minors.now c.args.mask c.args.allowance c.put_front-held.new.control c.put_front-held.result = record {
-      page = c.requires.keys_len.1;
-      ready = ready;
-      staged = c.put_front-held.ensures.control_after;
-      number = c.put_front-held.ensures.value;
-      size = c.put_front-held.auto.control ∙ c.requires.keys_len.1.control;
-    } in
-    let turning : Turning c.args.h c.family-family.result c.args.keys.now c.args.array.now c.args.control.now c.args.cache.now c.args.p c.root-old.result c.args.allowance c.loop-j.control c.loop-j.array c.loop-j.left c.loop-j.held c.loop-j.rest = c.loop-j.invariant c.args.control.now begins in
-    let there : There c.loop-j.array c.args.p c.lowest-j.result = line-there c.args.h c.loop-j.array c.args.p c.lowest-j.result c.requires.keys_len.1.sized.flat
+    let begins = begins c.requires.keys_len.1 (record { at = λ i. (c.slice_known-2-1.given i).fits })
+    (record { at = λ i. (c.slice_known-1.given i).fits }) (record { at = λ i. (c.type_inv.cache i).fits })
+    c.put_front-held.ensures.control_after c.put_front-held.ensures.value c.put_front-held.auto.control in
+    let turning = c.loop-j.invariant c.args.control.now begins in
+    let there = line-there c.args.h c.loop-j.array c.args.t.now.p c.lowest-j.result c.requires.keys_len.1.sized.flat
     turning.formed.array-length c.requires.keys_len.1.page c.lowest-j.ensures.1 in
     omega (arith, there.small)
 
 pub overflow_add-line : goal.overflow_add-line
 overflow_add-line c =
-    let ready : Ready c.args.h c.args.array.now c.args.control.now c.args.cache.now c.args.p = record {
-      sized = c.requires.keys_len.1.sized;
-      control = c.requires.keys_len.1.control;
-      shaped = c.requires.keys_len.1.shaped;
-      page = c.requires.keys_len.1.page;
-      array-bytes = record { at = λ i. (c.slice_known-2-1.given i).fits };
-      control-bytes = record { at = λ i. (c.slice_known-1.given i).fits };
-      cache-bytes = record { at = λ i. (c.type_inv.cache i).fits };
-    } in
-    let begins : Begins c.args.h c.args.array.now c.args.control.now c.args.cache.now c.args.p c.args.missing c.args.major c.args.minors.now c.args.mask c.args.allowance c.put_front-held.new.control c.put_front-held.result = record {
-      page = c.requires.keys_len.1;
-      ready = ready;
-      staged = c.put_front-held.ensures.control_after;
-      number = c.put_front-held.ensures.value;
-      size = c.put_front-held.auto.control ∙ c.requires.keys_len.1.control;
-    } in
-    let turning : Turning c.args.h c.family-family.result c.args.keys.now c.args.array.now c.args.control.now c.args.cache.now c.args.p c.root-old.result c.args.allowance c.loop-j.control c.loop-j.array c.loop-j.left c.loop-j.held c.loop-j.rest = c.loop-j.invariant c.args.control.now begins in
-    let there : There c.loop-j.array c.args.p c.lowest-j.result = line-there c.args.h c.loop-j.array c.args.p c.lowest-j.result c.requires.keys_len.1.sized.flat
+    let begins = begins c.requires.keys_len.1 (record { at = λ i. (c.slice_known-2-1.given i).fits })
+    (record { at = λ i. (c.slice_known-1.given i).fits }) (record { at = λ i. (c.type_inv.cache i).fits })
+    c.put_front-held.ensures.control_after c.put_front-held.ensures.value c.put_front-held.auto.control in
+    let turning = c.loop-j.invariant c.args.control.now begins in
+    let there = line-there c.args.h c.loop-j.array c.args.t.now.p c.lowest-j.result c.requires.keys_len.1.sized.flat
     turning.formed.array-length c.requires.keys_len.1.page c.lowest-j.ensures.1 in
     omega (arith, there.small)
 
-pub bounds-minors-j : goal.bounds-minors-j
-bounds-minors-j c = omega (arith, c.lowest-j.ensures.1, minors-size c.requires.keys_len.1)
+pub bounds-t-j : goal.bounds-t-j
+bounds-t-j c = omega (arith, c.lowest-j.ensures.1, minors-size c.requires.keys_len.1)
 
 pub put_line-requires : goal.put_line-requires
 put_line-requires c =
-    let ready : Ready c.args.h c.args.array.now c.args.control.now c.args.cache.now c.args.p = record {
-      sized = c.requires.keys_len.1.sized;
-      control = c.requires.keys_len.1.control;
-      shaped = c.requires.keys_len.1.shaped;
-      page = c.requires.keys_len.1.page;
-      array-bytes = record { at = λ i. (c.slice_known-2-1.given i).fits };
-      control-bytes = record { at = λ i. (c.slice_known-1.given i).fits };
-      cache-bytes = record { at = λ i. (c.type_inv.cache i).fits };
-    } in
-    let begins : Begins c.args.h c.args.array.now c.args.control.now c.args.cache.now c.args.p c.args.missing c.args.major c.args.minors.now c.args.mask c.args.allowance c.put_front-held.new.control c.put_front-held.result = record {
-      page = c.requires.keys_len.1;
-      ready = ready;
-      staged = c.put_front-held.ensures.control_after;
-      number = c.put_front-held.ensures.value;
-      size = c.put_front-held.auto.control ∙ c.requires.keys_len.1.control;
-    } in
-    let turning : Turning c.args.h c.family-family.result c.args.keys.now c.args.array.now c.args.control.now c.args.cache.now c.args.p c.root-old.result c.args.allowance c.loop-j.control c.loop-j.array c.loop-j.left c.loop-j.held c.loop-j.rest = c.loop-j.invariant c.args.control.now begins in
-    let there : There c.loop-j.array c.args.p c.lowest-j.result = line-there c.args.h c.loop-j.array c.args.p c.lowest-j.result c.requires.keys_len.1.sized.flat
+    let begins = begins c.requires.keys_len.1 (record { at = λ i. (c.slice_known-2-1.given i).fits })
+    (record { at = λ i. (c.slice_known-1.given i).fits }) (record { at = λ i. (c.type_inv.cache i).fits })
+    c.put_front-held.ensures.control_after c.put_front-held.ensures.value c.put_front-held.auto.control in
+    let turning = c.loop-j.invariant c.args.control.now begins in
+    let there = line-there c.args.h c.loop-j.array c.args.t.now.p c.lowest-j.result c.requires.keys_len.1.sized.flat
     turning.formed.array-length c.requires.keys_len.1.page c.lowest-j.ensures.1 in
     let t = turning in (
       c.requires.keys_len.0,
@@ -106,84 +63,18 @@ without_lowest-next-requires c =
     let several : 2 ≤ length (set_bits c.loop-j.rest) = omega (arith, c.remaining.ensures, c.loop-j-test.true) in
     some_bits _ (omega (arith, several))
 
-pub overflow_add-held : goal.overflow_add-held
-overflow_add-held c =
-    let ready : Ready c.args.h c.args.array.now c.args.control.now c.args.cache.now c.args.p = record {
-      sized = c.requires.keys_len.1.sized;
-      control = c.requires.keys_len.1.control;
-      shaped = c.requires.keys_len.1.shaped;
-      page = c.requires.keys_len.1.page;
-      array-bytes = record { at = λ i. (c.slice_known-2-1.given i).fits };
-      control-bytes = record { at = λ i. (c.slice_known-1.given i).fits };
-      cache-bytes = record { at = λ i. (c.type_inv.cache i).fits };
-    } in
-    let begins : Begins c.args.h c.args.array.now c.args.control.now c.args.cache.now c.args.p c.args.missing c.args.major c.args.minors.now c.args.mask c.args.allowance c.put_front-held.new.control c.put_front-held.result = record {
-      page = c.requires.keys_len.1;
-      ready = ready;
-      staged = c.put_front-held.ensures.control_after;
-      number = c.put_front-held.ensures.value;
-      size = c.put_front-held.auto.control ∙ c.requires.keys_len.1.control;
-    } in
-    let turning : Turning c.args.h c.family-family.result c.args.keys.now c.args.array.now c.args.control.now c.args.cache.now c.args.p c.root-old.result c.args.allowance c.loop-j.control c.loop-j.array c.loop-j.left c.loop-j.held c.loop-j.rest = c.loop-j.invariant c.args.control.now begins in
-    let several : 2 ≤ length (set_bits c.loop-j.rest) = omega (arith, c.remaining.ensures, c.loop-j-test.true) in
-    let line : Runs c.loop-j.array c.put_line.new.control (c.loop-j.held + 1) c.loop-j.left = line-runs _ c.args.keys.now _ begins turning several c.lowest-j.ensures.0
-    c.lowest-j.ensures.1 c.without_lowest-next.ensures c.without_lowest-next.type_inv c.put_line.ensures in
-    omega (arith, line.few)
-
 pub run_turn-left-requires : goal.run_turn-left-requires
 run_turn-left-requires c =
-    let ready : Ready c.args.h c.args.array.now c.args.control.now c.args.cache.now c.args.p = record {
-      sized = c.requires.keys_len.1.sized;
-      control = c.requires.keys_len.1.control;
-      shaped = c.requires.keys_len.1.shaped;
-      page = c.requires.keys_len.1.page;
-      array-bytes = record { at = λ i. (c.slice_known-2-1.given i).fits };
-      control-bytes = record { at = λ i. (c.slice_known-1.given i).fits };
-      cache-bytes = record { at = λ i. (c.type_inv.cache i).fits };
-    } in
-    let begins : Begins c.args.h c.args.array.now c.args.control.now c.args.cache.now c.args.p c.args.missing c.args.major c.args.minors.now c.args.mask c.args.allowance c.put_front-held.new.control c.put_front-held.result = record {
-      page = c.requires.keys_len.1;
-      ready = ready;
-      staged = c.put_front-held.ensures.control_after;
-      number = c.put_front-held.ensures.value;
-      size = c.put_front-held.auto.control ∙ c.requires.keys_len.1.control;
-    } in
-    let turning : Turning c.args.h c.family-family.result c.args.keys.now c.args.array.now c.args.control.now c.args.cache.now c.args.p c.root-old.result c.args.allowance c.loop-j.control c.loop-j.array c.loop-j.left c.loop-j.held c.loop-j.rest = c.loop-j.invariant c.args.control.now begins in
+    let begins = begins c.requires.keys_len.1 (record { at = λ i. (c.slice_known-2-1.given i).fits })
+    (record { at = λ i. (c.slice_known-1.given i).fits }) (record { at = λ i. (c.type_inv.cache i).fits })
+    c.put_front-held.ensures.control_after c.put_front-held.ensures.value c.put_front-held.auto.control in
+    let turning = c.loop-j.invariant c.args.control.now begins in
     let several : 2 ≤ length (set_bits c.loop-j.rest) = omega (arith, c.remaining.ensures, c.loop-j-test.true) in
-    let line : Runs c.loop-j.array c.put_line.new.control (c.loop-j.held + 1) c.loop-j.left = line-runs _ c.args.keys.now _ begins turning several c.lowest-j.ensures.0
+    let line = line-runs _ c.args.keys.now _ begins turning several c.lowest-j.ensures.0
     c.lowest-j.ensures.1 c.without_lowest-next.ensures c.without_lowest-next.type_inv c.put_line.ensures in
     let s = line in (
       c.put_line.auto.control ∙ turning.size,
       ((s.some, s.few), s.inside),
-    )
-
-pub overflow_sub-left : goal.overflow_sub-left
-overflow_sub-left c = ran-few _ _ _ c.run_turn-left.ensures.value
-
-pub loop-j-smaller : goal.loop-j-smaller
-loop-j-smaller c =
-    let ready : Ready c.args.h c.args.array.now c.args.control.now c.args.cache.now c.args.p = record {
-      sized = c.requires.keys_len.1.sized;
-      control = c.requires.keys_len.1.control;
-      shaped = c.requires.keys_len.1.shaped;
-      page = c.requires.keys_len.1.page;
-      array-bytes = record { at = λ i. (c.slice_known-2-1.given i).fits };
-      control-bytes = record { at = λ i. (c.slice_known-1.given i).fits };
-      cache-bytes = record { at = λ i. (c.type_inv.cache i).fits };
-    } in
-    let begins : Begins c.args.h c.args.array.now c.args.control.now c.args.cache.now c.args.p c.args.missing c.args.major c.args.minors.now c.args.mask c.args.allowance c.put_front-held.new.control c.put_front-held.result = record {
-      page = c.requires.keys_len.1;
-      ready = ready;
-      staged = c.put_front-held.ensures.control_after;
-      number = c.put_front-held.ensures.value;
-      size = c.put_front-held.auto.control ∙ c.requires.keys_len.1.control;
-    } in
-    let turning : Turning c.args.h c.family-family.result c.args.keys.now c.args.array.now c.args.control.now c.args.cache.now c.args.p c.root-old.result c.args.allowance c.loop-j.control c.loop-j.array c.loop-j.left c.loop-j.held c.loop-j.rest = c.loop-j.invariant c.args.control.now begins in
-    let several : 2 ≤ length (set_bits c.loop-j.rest) = omega (arith, c.remaining.ensures, c.loop-j-test.true) in
-    omega (
-      arith,
-      ap length (split _ c.args.keys.now _ begins turning several c.lowest-j.ensures.0
-          c.lowest-j.ensures.1 c.without_lowest-next.ensures c.without_lowest-next.type_inv),
     )
 
 pub loop-j-preserved : goal.loop-j-preserved
@@ -196,23 +87,10 @@ loop-j-preserved c =
 
 pub put_last-n-requires : goal.put_last-n-requires
 put_last-n-requires c =
-    let ready : Ready c.args.h c.args.array.now c.args.control.now c.args.cache.now c.args.p = record {
-      sized = c.requires.keys_len.1.sized;
-      control = c.requires.keys_len.1.control;
-      shaped = c.requires.keys_len.1.shaped;
-      page = c.requires.keys_len.1.page;
-      array-bytes = record { at = λ i. (c.slice_known-2-1.given i).fits };
-      control-bytes = record { at = λ i. (c.slice_known-1.given i).fits };
-      cache-bytes = record { at = λ i. (c.type_inv.cache i).fits };
-    } in
-    let begins : Begins c.args.h c.args.array.now c.args.control.now c.args.cache.now c.args.p c.args.missing c.args.major c.args.minors.now c.args.mask c.args.allowance c.put_front-held.new.control c.put_front-held.result = record {
-      page = c.requires.keys_len.1;
-      ready = ready;
-      staged = c.put_front-held.ensures.control_after;
-      number = c.put_front-held.ensures.value;
-      size = c.put_front-held.auto.control ∙ c.requires.keys_len.1.control;
-    } in
-    let turning : Turning c.args.h c.family-family.result c.args.keys.now c.args.array.now c.args.control.now c.args.cache.now c.args.p c.root-old.result c.args.allowance c.loop-j.control c.loop-j.array c.loop-j.left c.loop-j.held c.loop-j.rest = c.loop-j.invariant c.args.control.now begins in
+    let begins = begins c.requires.keys_len.1 (record { at = λ i. (c.slice_known-2-1.given i).fits })
+    (record { at = λ i. (c.slice_known-1.given i).fits }) (record { at = λ i. (c.type_inv.cache i).fits })
+    c.put_front-held.ensures.control_after c.put_front-held.ensures.value c.put_front-held.auto.control in
+    let turning = c.loop-j.invariant c.args.control.now begins in
     let few-left : length (set_bits c.loop-j.rest) < 2 = omega (arith, c.remaining.ensures, c.loop-j-test.false) in
     let t = turning in
     record {
@@ -240,143 +118,38 @@ put_last-n-requires c =
 
 pub run_turn-made-requires : goal.run_turn-made-requires
 run_turn-made-requires c =
-    let ready : Ready c.args.h c.args.array.now c.args.control.now c.args.cache.now c.args.p = record {
-      sized = c.requires.keys_len.1.sized;
-      control = c.requires.keys_len.1.control;
-      shaped = c.requires.keys_len.1.shaped;
-      page = c.requires.keys_len.1.page;
-      array-bytes = record { at = λ i. (c.slice_known-2-1.given i).fits };
-      control-bytes = record { at = λ i. (c.slice_known-1.given i).fits };
-      cache-bytes = record { at = λ i. (c.type_inv.cache i).fits };
-    } in
-    let begins : Begins c.args.h c.args.array.now c.args.control.now c.args.cache.now c.args.p c.args.missing c.args.major c.args.minors.now c.args.mask c.args.allowance c.put_front-held.new.control c.put_front-held.result = record {
-      page = c.requires.keys_len.1;
-      ready = ready;
-      staged = c.put_front-held.ensures.control_after;
-      number = c.put_front-held.ensures.value;
-      size = c.put_front-held.auto.control ∙ c.requires.keys_len.1.control;
-    } in
-    let turning : Turning c.args.h c.family-family.result c.args.keys.now c.args.array.now c.args.control.now c.args.cache.now c.args.p c.root-old.result c.args.allowance c.loop-j.control c.loop-j.array c.loop-j.left c.loop-j.held c.loop-j.rest = c.loop-j.invariant c.args.control.now begins in
+    let begins = begins c.requires.keys_len.1 (record { at = λ i. (c.slice_known-2-1.given i).fits })
+    (record { at = λ i. (c.slice_known-1.given i).fits }) (record { at = λ i. (c.type_inv.cache i).fits })
+    c.put_front-held.ensures.control_after c.put_front-held.ensures.value c.put_front-held.auto.control in
+    let turning = c.loop-j.invariant c.args.control.now begins in
     let few-left : length (set_bits c.loop-j.rest) < 2 = omega (arith, c.remaining.ensures, c.loop-j-test.false) in
-    let last : Runs c.loop-j.array c.put_last-n.new.control c.put_last-n.result c.loop-j.left = last_runs _ c.args.keys.now _ begins turning few-left c.requires.block_value.0
+    let last = last_runs _ c.args.keys.now _ begins turning few-left c.requires.block_value.0
     c.put_last-n.ensures.control_after c.put_last-n.ensures.value in
     let s = last in (
       c.put_last-n.auto.control ∙ turning.size,
       ((s.some, s.few), s.inside),
     )
 
-pub overflow_sub-result : goal.overflow_sub-result
-overflow_sub-result c =
-    let ready : Ready c.args.h c.args.array.now c.args.control.now c.args.cache.now c.args.p = record {
-      sized = c.requires.keys_len.1.sized;
-      control = c.requires.keys_len.1.control;
-      shaped = c.requires.keys_len.1.shaped;
-      page = c.requires.keys_len.1.page;
-      array-bytes = record { at = λ i. (c.slice_known-2-1.given i).fits };
-      control-bytes = record { at = λ i. (c.slice_known-1.given i).fits };
-      cache-bytes = record { at = λ i. (c.type_inv.cache i).fits };
-    } in
-    let begins : Begins c.args.h c.args.array.now c.args.control.now c.args.cache.now c.args.p c.args.missing c.args.major c.args.minors.now c.args.mask c.args.allowance c.put_front-held.new.control c.put_front-held.result = record {
-      page = c.requires.keys_len.1;
-      ready = ready;
-      staged = c.put_front-held.ensures.control_after;
-      number = c.put_front-held.ensures.value;
-      size = c.put_front-held.auto.control ∙ c.requires.keys_len.1.control;
-    } in
-    let turning : Turning c.args.h c.family-family.result c.args.keys.now c.args.array.now c.args.control.now c.args.cache.now c.args.p c.root-old.result c.args.allowance c.loop-j.control c.loop-j.array c.loop-j.left c.loop-j.held c.loop-j.rest = c.loop-j.invariant c.args.control.now begins in
-    omega (arith, turning.within)
-
-pub overflow_add-result : goal.overflow_add-result
-overflow_add-result c =
-    let ready : Ready c.args.h c.args.array.now c.args.control.now c.args.cache.now c.args.p = record {
-      sized = c.requires.keys_len.1.sized;
-      control = c.requires.keys_len.1.control;
-      shaped = c.requires.keys_len.1.shaped;
-      page = c.requires.keys_len.1.page;
-      array-bytes = record { at = λ i. (c.slice_known-2-1.given i).fits };
-      control-bytes = record { at = λ i. (c.slice_known-1.given i).fits };
-      cache-bytes = record { at = λ i. (c.type_inv.cache i).fits };
-    } in
-    let begins : Begins c.args.h c.args.array.now c.args.control.now c.args.cache.now c.args.p c.args.missing c.args.major c.args.minors.now c.args.mask c.args.allowance c.put_front-held.new.control c.put_front-held.result = record {
-      page = c.requires.keys_len.1;
-      ready = ready;
-      staged = c.put_front-held.ensures.control_after;
-      number = c.put_front-held.ensures.value;
-      size = c.put_front-held.auto.control ∙ c.requires.keys_len.1.control;
-    } in
-    let turning : Turning c.args.h c.family-family.result c.args.keys.now c.args.array.now c.args.control.now c.args.cache.now c.args.p c.root-old.result c.args.allowance c.loop-j.control c.loop-j.array c.loop-j.left c.loop-j.held c.loop-j.rest = c.loop-j.invariant c.args.control.now begins in
-    omega (arith, turning.within, ran-few _ _ _ c.run_turn-made.ensures.value, c.ranges.allowance.fits)
-
-pub overflow_mul-result : goal.overflow_mul-result
-overflow_mul-result c =
-    let ready : Ready c.args.h c.args.array.now c.args.control.now c.args.cache.now c.args.p = record {
-      sized = c.requires.keys_len.1.sized;
-      control = c.requires.keys_len.1.control;
-      shaped = c.requires.keys_len.1.shaped;
-      page = c.requires.keys_len.1.page;
-      array-bytes = record { at = λ i. (c.slice_known-2-1.given i).fits };
-      control-bytes = record { at = λ i. (c.slice_known-1.given i).fits };
-      cache-bytes = record { at = λ i. (c.type_inv.cache i).fits };
-    } in
-    let begins : Begins c.args.h c.args.array.now c.args.control.now c.args.cache.now c.args.p c.args.missing c.args.major c.args.minors.now c.args.mask c.args.allowance c.put_front-held.new.control c.put_front-held.result = record {
-      page = c.requires.keys_len.1;
-      ready = ready;
-      staged = c.put_front-held.ensures.control_after;
-      number = c.put_front-held.ensures.value;
-      size = c.put_front-held.auto.control ∙ c.requires.keys_len.1.control;
-    } in
-    let turning : Turning c.args.h c.family-family.result c.args.keys.now c.args.array.now c.args.control.now c.args.cache.now c.args.p c.root-old.result c.args.allowance c.loop-j.control c.loop-j.array c.loop-j.left c.loop-j.held c.loop-j.rest = c.loop-j.invariant c.args.control.now begins in
-    let few-left : length (set_bits c.loop-j.rest) < 2 = omega (arith, c.remaining.ensures, c.loop-j-test.false) in
-    let last : Runs c.loop-j.array c.put_last-n.new.control c.put_last-n.result c.loop-j.left = last_runs _ c.args.keys.now _ begins turning few-left c.requires.block_value.0
-    c.put_last-n.ensures.control_after c.put_last-n.ensures.value in
-    omega (arith, last.few)
-
-pub overflow_add-result-2 : goal.overflow_add-result-2
-overflow_add-result-2 c =
-    let ready : Ready c.args.h c.args.array.now c.args.control.now c.args.cache.now c.args.p = record {
-      sized = c.requires.keys_len.1.sized;
-      control = c.requires.keys_len.1.control;
-      shaped = c.requires.keys_len.1.shaped;
-      page = c.requires.keys_len.1.page;
-      array-bytes = record { at = λ i. (c.slice_known-2-1.given i).fits };
-      control-bytes = record { at = λ i. (c.slice_known-1.given i).fits };
-      cache-bytes = record { at = λ i. (c.type_inv.cache i).fits };
-    } in
-    let begins : Begins c.args.h c.args.array.now c.args.control.now c.args.cache.now c.args.p c.args.missing c.args.major c.args.minors.now c.args.mask c.args.allowance c.put_front-held.new.control c.put_front-held.result = record {
-      page = c.requires.keys_len.1;
-      ready = ready;
-      staged = c.put_front-held.ensures.control_after;
-      number = c.put_front-held.ensures.value;
-      size = c.put_front-held.auto.control ∙ c.requires.keys_len.1.control;
-    } in
-    let turning : Turning c.args.h c.family-family.result c.args.keys.now c.args.array.now c.args.control.now c.args.cache.now c.args.p c.root-old.result c.args.allowance c.loop-j.control c.loop-j.array c.loop-j.left c.loop-j.held c.loop-j.rest = c.loop-j.invariant c.args.control.now begins in
-    let few-left : length (set_bits c.loop-j.rest) < 2 = omega (arith, c.remaining.ensures, c.loop-j-test.false) in
-    let last : Runs c.loop-j.array c.put_last-n.new.control c.put_last-n.result c.loop-j.left = last_runs _ c.args.keys.now _ begins turning few-left c.requires.block_value.0
-    c.put_last-n.ensures.control_after c.put_last-n.ensures.value in
-    omega (arith, last.few)
-
-pub returns : goal.returns
-returns c =
-    let ready : Ready c.args.h c.args.array.now c.args.control.now c.args.cache.now c.args.p = record {
-      sized = c.requires.keys_len.1.sized;
-      control = c.requires.keys_len.1.control;
-      shaped = c.requires.keys_len.1.shaped;
-      page = c.requires.keys_len.1.page;
-      array-bytes = record { at = λ i. (c.slice_known-2-1.given i).fits };
-      control-bytes = record { at = λ i. (c.slice_known-1.given i).fits };
-      cache-bytes = record { at = λ i. (c.type_inv.cache i).fits };
-    } in
-    let begins : Begins c.args.h c.args.array.now c.args.control.now c.args.cache.now c.args.p c.args.missing c.args.major c.args.minors.now c.args.mask c.args.allowance c.put_front-held.new.control c.put_front-held.result = record {
-      page = c.requires.keys_len.1;
-      ready = ready;
-      staged = c.put_front-held.ensures.control_after;
-      number = c.put_front-held.ensures.value;
-      size = c.put_front-held.auto.control ∙ c.requires.keys_len.1.control;
-    } in
-    let turning : Turning c.args.h c.family-family.result c.args.keys.now c.args.array.now c.args.control.now c.args.cache.now c.args.p c.root-old.result c.args.allowance c.loop-j.control c.loop-j.array c.loop-j.left c.loop-j.held c.loop-j.rest = c.loop-j.invariant c.args.control.now begins in
+pub returns-then-made-n : goal.returns-then-made-n
+returns-then-made-n c =
+    let begins = begins c.requires.keys_len.1 (record { at = λ i. (c.slice_known-2-1.given i).fits })
+    (record { at = λ i. (c.slice_known-1.given i).fits }) (record { at = λ i. (c.type_inv.cache i).fits })
+    c.put_front-held.ensures.control_after c.put_front-held.ensures.value c.put_front-held.auto.control in
+    let turning = c.loop-j.invariant c.args.control.now begins in
     let few-left : length (set_bits c.loop-j.rest) < 2 = omega (arith, c.remaining.ensures, c.loop-j-test.false) in
     turned-makes _ c.args.keys.now _ begins turning few-left c.requires.block_value.0
     c.put_last-n.ensures.control_after c.put_last-n.ensures.value c.requires.block_value.1
     (record { left = c.run_turn-made.ensures.control_after; number = c.run_turn-made.ensures.value })
-    c.family-family.ensures
-    c.root-old.ensures
+    c.family-family.ensures c.root-old.ensures (lt-leb _ _ c.if-made-n.true)
+
+pub returns : goal.returns
+returns c =
+    let begins = begins c.requires.keys_len.1 (record { at = λ i. (c.slice_known-2-1.given i).fits })
+    (record { at = λ i. (c.slice_known-1.given i).fits }) (record { at = λ i. (c.type_inv.cache i).fits })
+    c.put_front-held.ensures.control_after c.put_front-held.ensures.value c.put_front-held.auto.control in
+    let turning = c.loop-j.invariant c.args.control.now begins in
+    let few-left : length (set_bits c.loop-j.rest) < 2 = omega (arith, c.remaining.ensures, c.loop-j-test.false) in
+    turned-makes _ c.args.keys.now _ begins turning few-left c.requires.block_value.0
+    c.put_last-n.ensures.control_after c.put_last-n.ensures.value c.requires.block_value.1
+    (record { left = c.run_turn-made.ensures.control_after; number = c.run_turn-made.ensures.value })
+    c.family-family.ensures c.root-old.ensures (le-leb _ _ c.if-made-n.false)
