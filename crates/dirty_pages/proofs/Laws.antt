@@ -12,6 +12,8 @@ use Rattle.words.specs.Bytes.{bytes_of}
 use Rattle.memory_map.specs.Map.{slots}
 use Rattle.slot_map.specs.Slots.{cache_length}
 use Rattle.answer.specs.declared.Answer.{Answer}
+use Rattle.answer.specs.declared.Refusal.{Refusal}
+use Rattle.answer.specs.Refusal.{number_of}
 use Rattle.answer.specs.declared.Answer.TheVariants.{Done, Refused}
 use Rattle.control.specs.Control.{control_length, depth, valid}
 use Rattle.control.proofs.Laws.{valid-parts}
@@ -87,11 +89,15 @@ accepted control cache out e =
 
 -- ---- the call
 
-pub refused : (control cache out : List ℕ) (n : ℕ) → n ≡ list_refusal control cache out → (n ≡ 0 → ⊥) → {r : Answer} → r ≡ Refused n 0 0 0
-    → record { answer = r; output = out } ≡ dirty_pages control cache out
+-- no refusal has the number 0
+some-number : (r : Refusal) → number_of r ≡ 0 → ⊥
+some-number r e = grind arith
+
+pub refused : (control cache out : List ℕ) {n : ℕ} (r : Refusal) → number_of r ≡ n → n ≡ list_refusal control cache out
+    → {a : Answer} → a ≡ Refused n 0 0 0 → record { answer = a; output = out } ≡ dirty_pages control cache out
 unfolding list_judged
-refused control cache out zero e p f = absurd (p refl)
-refused control cache out (suc n) e p f = rw f (ap (λ (k : ℕ). list_judged k control cache out) e)
+refused control cache out {n = zero} r e p f = absurd (some-number r e)
+refused control cache out {n = suc n} r e p f = rw f (ap (λ (k : ℕ). list_judged k control cache out) p)
 
 pub listed : (control cache out after : List ℕ) → 0 ≡ list_refusal control cache out
     → after ≡ bytes_of 8 (rising (entry cache 0) (entry cache 1) (entry cache 2) (entry cache 3))

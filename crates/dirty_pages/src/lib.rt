@@ -3,35 +3,36 @@
 
 ghost use Rattle.std.specs.Prelude.{ℕ, ◌*◌, ◌<◌, ◌≤◌, ◌≡◌, length};
 ghost use Rattle.words.specs.Bytes.{bytes_of};
+ghost use Rattle.answer.specs.Refusal.{refusal_of};
 ghost use Rattle.cache.specs.Cache.{owner as owner_of, dirty as dirty_of};
 ghost use Rattle.calls.specs.DirtyPages.{list_refusal, dirty_pages};
 ghost use Rattle.rising.specs.Rising.{rising};
 ghost use Rattle.dirty_pages.specs.Entry.{entry as entry_of};
 
-use answer::{Answer, refuse};
+use answer::{Answer, Refusal};
 
-// The refusal of the call, 0 where it has none: 3 21 5 7 23.
-fn refusal(control: &[u8], cache: &[u8], out: &[u8]) -> u64
-    ensures { result ≡ list_refusal control.now cache.now out.now }
+// The call's inputs accepted, or its refusal: 3 21 5 7 23.
+fn accepted(control: &[u8], cache: &[u8], out: &[u8]) -> Result<(), Refusal>
+    ensures { refusal_of result ≡ list_refusal control.now cache.now out.now }
 {
     if control.len() != control::LENGTH {
-        return 3;
+        return Err(Refusal::BadControlLength);
     }
     if !control::valid(control) {
-        return 21;
+        return Err(Refusal::BadControl);
     }
     let h = control::depth(control);
     let size = slot_map::cache_length(h);
     if cache.len() != size {
-        return 5;
+        return Err(Refusal::BadCacheLength);
     }
     if out.len() != 32 {
-        return 7;
+        return Err(Refusal::BadBufferLength);
     }
     if !cache::formed(h, cache) {
-        return 23;
+        return Err(Refusal::BadCache);
     }
-    0
+    Ok(())
 }
 
 // What counter slot s gives the list: its page where it is dirty, else the number of a spare place, all FF hex.
@@ -66,9 +67,8 @@ pub fn dirty_pages(control: &[u8], cache: &[u8], out: &mut [u8]) -> Answer
     ensures { record { answer = result; output = out.new }
         ≡ dirty_pages control.now cache.now out.old }
 {
-    let number = refusal(control, cache, out);
-    if number != 0 {
-        return refuse(number, 0, 0);
+    if let Err(refusal) = accepted(control, cache, out) {
+        return refusal.into();
     }
     put_pages(cache, out);
     Answer::Done { stores: 0, sum: 0 }

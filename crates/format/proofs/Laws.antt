@@ -1,20 +1,22 @@
 -- Laws of format: the control record, the tests of depth and family, and the whole call. Assumes nothing.
-use mathlib.Core.Path.{◌≡◌, refl, sym, ap, ap₂, ◌∙◌}
+use mathlib.Core.Path.{◌≡◌, refl, ap, ap₂, ◌∙◌}
 use mathlib.Core.Bool.{false, ◌&&◌, not}
 use mathlib.Core.List.{List}
 use Prim.Native.Nat.{ℕ, zero, suc, ◌≤◌, ◌<◌}
 use native.Mathlib.Nat.{le_refl}
+use native.Mathlib.Omega.{arith}
 use borrow.Author.Tests.{le-leb, lt-leb}
 use lib.Dec.{leb}
-use lib.ListN.{length, set, replicate, length-replicate}
+use lib.ListN.{length, set, replicate}
 use Rattle.words.specs.Bytes.{digits, to_le, put}
-use Rattle.words.proofs.Parts.{put_all}
 use Rattle.memory_map.specs.Map.{cell_of}
 use Rattle.memory_map.specs.Map.Item.{node}
 use Rattle.memory_map.proofs.Laws.{nodes-some}
 use Rattle.slot_map.specs.Slots.{cache_length}
 use Rattle.tag.specs.Tag.{node_tag}
 use Rattle.answer.specs.declared.Answer.{Answer}
+use Rattle.answer.specs.declared.Refusal.{Refusal}
+use Rattle.answer.specs.Refusal.{number_of}
 use Rattle.answer.specs.declared.Answer.TheVariants.{Done, Refused}
 use Rattle.control.specs.Control.{control_length, mark_of, fresh_control}
 use Rattle.cache.specs.Cache.{cell_content}
@@ -35,15 +37,19 @@ written : (h f r : ℕ) → put (set (set (set (put (replicate 681 0) 0 (to_le 4
 unfolding fresh_control digits
 written h f r = refl
 
-pub control-written : (k : List ℕ) (h f r : ℕ) {z s after : List ℕ} {x : ℕ} → length k ≡ control_length → z ≡ put k 0 (replicate 681 0)
+pub control-written : (k : List ℕ) (h f r : ℕ) {z s after : List ℕ} {x : ℕ} → length k ≡ control_length → z ≡ replicate (length k) 0
     → x ≡ mark_of f → s ≡ put z 0 (to_le 4 x) → after ≡ put (set (set (set s 4 1) 5 h) 6 1) 7 (to_le 8 r) → after ≡ fresh_control h f r
 control-written k h f r {z} {s} {after} {x} l e m g w =
     let zeros : List ℕ = replicate 681 0 in
     let marked : s ≡ put zeros 0 (to_le 4 (mark_of f)) =
-    g ∙ ap₂ {C = List ℕ} (λ (a : List ℕ) (n : ℕ). put a 0 (to_le 4 n)) (e ∙ put_all k zeros (sym l)) m in
+    g ∙ ap₂ {C = List ℕ} (λ (a : List ℕ) (n : ℕ). put a 0 (to_le 4 n)) (e ∙ ap (λ (n : ℕ). replicate {A = ℕ} n 0) l) m in
     w ∙ ap (λ (a : List ℕ). put (set (set (set a 4 1) 5 h) 6 1) 7 (to_le 8 r)) marked ∙ written h f r
 
 -- ---- refusals
+
+-- none has the number 0
+some-number : (r : Refusal) → number_of r ≡ 0 → ⊥
+some-number r e = grind arith
 
 module _ (keys : List ℕ) (h f : ℕ) (m : Module) where
   pub too-flat : h < 1 → 1 ≡ format_refusal keys h f m
@@ -79,11 +85,11 @@ module _ (keys : List ℕ) (h f : ℕ) (m : Module) where
 
   -- ---- the call
 
-  pub refused : (n : ℕ) → n ≡ format_refusal keys h f m → (n ≡ 0 → ⊥) → {r : Answer} → r ≡ Refused n 0 0 0
-      → ended r m.array m.control m.cache ≡ format keys h f m
+  pub refused : {n : ℕ} (r : Refusal) → number_of r ≡ n → n ≡ format_refusal keys h f m → {a : Answer} → a ≡ Refused n 0 0 0
+      → ended a m.array m.control m.cache ≡ format keys h f m
   unfolding format
-  refused zero e p g = absurd (p refl)
-  refused (suc n) e p g = rw (g, format, ← e)
+  refused {n = zero} r e p g = absurd (some-number r e)
+  refused {n = suc n} r e p g = rw (g, format, ← p)
 
   pub done : 0 ≡ format_refusal keys h f m → {a k c : List ℕ} {r : ℕ} → a ≡ fresh_array keys h → k ≡ fresh_control h f r
       → r ≡ fresh_root keys none none h → c ≡ replicate (cache_length h) 0 → ended (Done 0 0) a k c ≡ format keys h f m
@@ -97,5 +103,5 @@ root-fresh keys h ea en eb er =
     (eb ∙ ap₂ {C = List ℕ} cell_content ea en ∙ node-stored keys h h 0 (le_refl h) (nodes-some h h))
 
 -- a buffer of zeros
-pub zeroed : (a : List ℕ) (n : ℕ) {b : List ℕ} → length a ≡ n → b ≡ put a 0 (replicate (length a) 0) → b ≡ replicate n 0
-zeroed a n l e = e ∙ put_all a (replicate (length a) 0) (length-replicate (length a) 0) ∙ ap (λ (k : ℕ). replicate k 0) l
+pub zeroed : {k n : ℕ} {b : List ℕ} → k ≡ n → b ≡ replicate k 0 → b ≡ replicate n 0
+zeroed l e = e ∙ ap (λ (k : ℕ). replicate k 0) l

@@ -107,8 +107,15 @@ module _ {h : ℕ} {keys a k c : List ℕ} {line : ℕ} {n : Line} (found : Foun
       go (inr f) false e = by_tests false true e f
 
   -- under the allowance: cut, or the stores made and the output written
-  module _ (o : (n.minor ≡ 0) ⊎ (fits ≡ true)) {r : Answer} {a' k' c' : List ℕ}
-      (e : ended r a' k' c' ≡ storing allowance m xs (Done (length xs) 0) d) where
+  module _ (o : (n.minor ≡ 0) ⊎ (fits ≡ true)) {r : Answer} {a' k' c' : List ℕ} {p : ℕ} (page : p ≡ page_of line)
+      (its : ended r a' k' c' ≡ storing allowance m (path_stores h c p (root k)) (Done (length (path_stores h c p (root k))) 0)
+      (with_path h a p (suc h) c)) where
+    e : ended r a' k' c' ≡ storing allowance m xs (Done (length xs) 0) d
+    e =
+        its
+        ∙ ap (λ (i : ℕ). storing allowance m (path_stores h c i (root k)) (Done (length (path_stores h c i (root k))) 0)
+        (with_path h a i (suc h) c)) page
+
     abbrev z : Bool
     z = eqb n.minor 0
 

@@ -9,8 +9,7 @@ ghost use Rattle.node.specs.Sized.{Sized};
 ghost use Rattle.calls.specs.Call.{buffers, path_of};
 ghost use Rattle.calls.specs.Read.{ended_read, read_path, read as reading};
 
-use answer::{Answer, refuse};
-use path::Path;
+use answer::{Answer, Refusal};
 
 // Reads a line of a module that is accepted.
 fn read_line(
@@ -30,20 +29,20 @@ fn read_line(
         out.old (path_of keys.now line (buffers array.old control.old cache.old)) }
 {
     let found = path::find_line(h, keys, control, array, cache, line);
-    let path = found.path;
-    let Path::Loaded { missing } = path else {
-        return path::refused(path);
+    let missing = match found.path {
+        Ok(missing) => missing,
+        Err(node) => return node.into(),
     };
     if found.minor != 0 {
         let family = control::family(control);
         if !line_text::side_ok(family, keys, array, line, found.major, found.minor) {
-            return refuse(25, line as u64, 0);
+            return Refusal::BadData.at(line as u64, 0);
         }
     }
     let p = memory_map::page_of(line);
-    let ended = loading::settle(h, control, array, cache, p, missing, allowance);
-    let Answer::Done { stores, sum: _ } = ended else {
-        return ended;
+    let stores = match loading::settle(h, control, array, cache, p, missing, allowance) {
+        Ok(stores) => stores,
+        Err(cut) => return cut.into(),
     };
     line_text::give(keys, array, line, found.major, found.minor, stores, out)
 }
@@ -62,9 +61,8 @@ pub fn read(
         ≡ reading keys.now line allowance out.old
         (buffers array.old control.old cache.old) }
 {
-    let number = access::access(keys, control, array, cache, line, out);
-    if number != 0 {
-        return refuse(number, 0, 0);
+    if let Err(refusal) = access::access(keys, control, array, cache, line, out) {
+        return refusal.into();
     }
     read_line(
         control::depth(control),

@@ -1,5 +1,5 @@
 -- How recovery ends. Assumes nothing.
-use mathlib.Core.Path.{◌≡◌, refl, sym, ap, ap₂, ◌∙◌, subst}
+use mathlib.Core.Path.{◌≡◌, sym, ap, ap₂, ◌∙◌, subst}
 use mathlib.Core.Bool.{Bool, true, false, cond}
 use mathlib.Core.List.{List}
 use Prim.Native.Nat.{ℕ, zero, suc, min, ◌+◌, ◌-◌, ◌≤◌, ◌<◌}
@@ -13,19 +13,21 @@ use Rattle.memory_map.specs.Map.{slots}
 use Rattle.slot_map.specs.Slots.{cache_length}
 use Rattle.tag.specs.Tag.{node_tag}
 use Rattle.answer.specs.declared.Answer.{Answer}
+use Rattle.answer.specs.declared.Refusal.{Refusal}
+use Rattle.answer.specs.Refusal.{number_of}
 use Rattle.answer.specs.declared.Answer.TheVariants.{Done, Cut, Refused}
 use Rattle.control.specs.Control.{depth, root, count, queue}
 use Rattle.control.proofs.Laws.{length-places}
-use Rattle.cache.specs.declared.Found.{Found}
-use Rattle.cache.specs.declared.Found.TheVariants.{Nothing, At}
+use Rattle.std.specs.Prelude.{Option, None, Some}
 use Rattle.cache.specs.Cache.{empty_cache, shadow_owner, shadow_owners, bad_slot, current}
 use Rattle.cache.proofs.Laws.{owned, get_d-from}
 use Rattle.journal.specs.Journal.{Store, Media, media, store_all, pending_stores, made, is_cut, Stored}
 use Rattle.journal.proofs.Laws.{length-finish, pending-some, pending-none, less-cut, enough-whole}
 use Rattle.node.specs.Sized.{Sized}
 use Rattle.calls.specs.Call.{Module, Called, buffers, ended, media_of, with_media}
-use Rattle.calls.specs.Recovery.{so_far, rebuild_blocks, rebuild_nodes, refuse_after, recovery_refusal, recover}
+use Rattle.calls.specs.Recovery.{Forwarded, so_far, rebuild_blocks, rebuild_nodes, refuse_after, recovery_refusal, recover}
 use Rattle.calls.specs.Recovery.{recover_root, recover_rebuilt, recover_shadow, recover_media, recover_judged}
+use Rattle.access.proofs.Laws.{some-number}
 use Rattle.forwarding.specs.Rebuild.{Placed}
 
 -- ---- the cache rebuilt
@@ -65,6 +67,14 @@ module _ (keys : List ℕ) (k : ℕ) (m : Module) (os : List ℕ) where
         → ended (Done k sum) m.array m.control e ≡ recover_rebuilt keys k m os (so_far d sum)
     ends-done p f = ap (ended (Done k sum) m.array m.control) f ∙ by-root true (eq-eqb t q p)
 
+  -- what is told of the counters, at the depth n that was read
+  pub at-depth : (image : List ℕ) {n : ℕ} → n ≡ h → {r : Forwarded} → r ≡ rebuild_blocks n keys (media m.array m.control) 0 (take 4 os) image 0
+      → recover_rebuilt keys k m (take (slots h) os) r
+      ≡ recover_rebuilt keys k m (take (slots h) os) (rebuild_blocks h keys (media m.array m.control) 0 (take 4 os) image 0)
+  at-depth image e f =
+      ap (recover_rebuilt keys k m (take (slots h) os))
+      (f ∙ ap (λ (n : ℕ). rebuild_blocks n keys (media m.array m.control) 0 (take 4 os) image 0) e)
+
 -- ---- the shadow
 
 -- the first of many zeros
@@ -80,7 +90,7 @@ image-empty h n k e p =
     let all : n - 0 ≡ n = omega arith in
     ap (λ (i : ℕ). take i (replicate k 0)) all ∙ zeros-front n k p ∙ ap (λ (i : ℕ). replicate i 0) e
 
-pub placed : (h : ℕ) (a os : List ℕ) → take (slots h) os ≡ shadow_owners h a → bad_slot h (take (slots h) os) ≡ Nothing → Placed h os
+pub placed : (h : ℕ) (a os : List ℕ) → take (slots h) os ≡ shadow_owners h a → bad_slot h (take (slots h) os) ≡ None → Placed h os
 placed h a os listed fine =
     let f = shadow_owner h a in
     let same : (s : ℕ) → s < slots h → f s ≡ get_or os s 0 = λ s p.
@@ -96,15 +106,15 @@ module _ (keys : List ℕ) (k : ℕ) (m : Module) (os : List ℕ) where
   abbrev first : List ℕ
   first = take (slots (depth m.control)) os
 
-  module _ (listed : first ≡ owners) {f : Found} (found : f ≡ bad_slot (depth m.control) first) where
-    as-found : {g : Found} → f ≡ g → recover_media keys k m ≡ recover_shadow keys k m owners g
+  module _ (listed : first ≡ owners) {f : Option ℕ} (found : f ≡ bad_slot (depth m.control) first) where
+    as-found : {g : Option ℕ} → f ≡ g → recover_media keys k m ≡ recover_shadow keys k m owners g
     as-found e = ap (recover_shadow keys k m owners) (ap (bad_slot (depth m.control)) (sym listed) ∙ sym found ∙ e)
 
-    pub ends-bad : {s : ℕ} → f ≡ At s → refuse_after k m 27 s ≡ recover_media keys k m
+    pub ends-bad : {s : ℕ} → f ≡ Some s → refuse_after k m 27 s ≡ recover_media keys k m
     unfolding recover_shadow
     ends-bad e = sym (as-found e)
 
-    pub ends-rebuilt : f ≡ Nothing → {c : List ℕ} → c ≡ empty_cache (depth m.control)
+    pub ends-rebuilt : f ≡ None → {c : List ℕ} → c ≡ empty_cache (depth m.control)
         → recover_rebuilt keys k m first
         (rebuild_blocks (depth m.control) keys (media_of m) 0 (take 4 os) c 0) ≡ recover_media keys k m
     unfolding recover_shadow slots
@@ -128,11 +138,11 @@ module _ (k : List ℕ) {n : ℕ} (number : n ≡ count k) where
       ap length (pending-some k (omega arith)) ∙ length-finish _ _ ∙ ap (λ (i : ℕ). i + 2) (length-places k _ (count k) ∙ sym number)
 
 module _ (keys : List ℕ) (allowance : ℕ) (m : Module) where
-  pub ends-refused : (n : ℕ) → n ≡ recovery_refusal keys m → (n ≡ 0 → ⊥) → {r : Answer} → r ≡ Refused n 0 0 0
-      → ended r m.array m.control m.cache ≡ recover keys allowance m
+  pub ends-refused : {n : ℕ} (r : Refusal) → number_of r ≡ n → n ≡ recovery_refusal keys m → {a : Answer} → a ≡ Refused n 0 0 0
+      → ended a m.array m.control m.cache ≡ recover keys allowance m
   unfolding recover_judged
-  ends-refused zero e p f = absurd (p refl)
-  ends-refused (suc n) e p f = rw f (ap (λ (i : ℕ). recover_judged i keys allowance m) e)
+  ends-refused {n = zero} r e p f = absurd (some-number r e)
+  ends-refused {n = suc n} r e p f = rw f (ap (λ (i : ℕ). recover_judged i keys allowance m) p)
 
   abbrev xs : List Store
   xs = pending_stores m.control

@@ -15,8 +15,7 @@ use Rattle.answer.specs.declared.Answer.{Answer}
 use Rattle.answer.specs.declared.Answer.TheVariants.{Refused}
 use Rattle.control.specs.Control.{Cell, control_length, family, depth, is_open, turn_mask}
 use Rattle.cache.specs.Cache.{formed, current}
-use Rattle.cache.specs.declared.Found.{Found}
-use Rattle.cache.specs.declared.Found.TheVariants.{Nothing, At}
+use Rattle.std.specs.Prelude.{Option, None, Some}
 use Rattle.node.specs.Sized.{Sized}
 use Rattle.node.proofs.Laws.{line-room, current-length}
 use Rattle.calls.specs.Path.{loaded, differs}
@@ -109,7 +108,7 @@ module _ {h : ℕ} {a k c : List ℕ} {p : ℕ} (y : Ready h a k c p) (keys : Li
   major-same : ma ≡ major (block_of d p)
   major-same = is-major ∙ ap major (sym (block-loaded y))
 
-  abbrev checked : Found → Called
+  abbrev checked : Option ℕ → Called
   checked f = turn_checked keys p allowance m d (path_cells h c p (suc h)) f
 
   by-major : (b : Bool) → eqb ma (2 ^ 64 - 1) ≡ b
@@ -125,7 +124,7 @@ module _ {h : ℕ} {a k c : List ℕ} {p : ℕ} (y : Ready h a k c p) (keys : Li
 
   -- ms are the page's minors, the places still to turn are the mask's, fam is the family, and f is the first line that does not fit
   module _ (more : ma ≡ 2 ^ 64 - 1 → ⊥) {ms : List ℕ} (are-minors : ms ≡ minors (current h a c 0 p)) (mask : ℕ)
-      (at : set_bits mask ≡ cond (is_open k p) (set_bits (turn_mask k)) (written_from 0 ms)) {fam : ℕ} (is-family : fam ≡ family k) {f : Found}
+      (at : set_bits mask ≡ cond (is_open k p) (set_bits (turn_mask k)) (written_from 0 ms)) {fam : ℕ} (is-family : fam ≡ family k) {f : Option ℕ}
       (searched : f ≡ first_bad fam keys a p ma ms (set_bits mask)) where
     by-line : checked f ≡ whole
     by-line =
@@ -135,9 +134,9 @@ module _ {h : ℕ} {a k c : List ℕ} {p : ℕ} (y : Ready h a k c p) (keys : Li
         ∙ sym (by-major false (ne_eqb ma (2 ^ 64 - 1) more))
 
     -- 25
-    pub turn-bad : {n : ℕ} → f ≡ At n → {r : Answer} → r ≡ Refused 25 0 n 0 → ended r a k c ≡ whole
+    pub turn-bad : {n : ℕ} → f ≡ Some n → {r : Answer} → r ≡ Refused 25 0 n 0 → ended r a k c ≡ whole
     unfolding turn_checked
     turn-bad e g = rw g (sym (ap checked e) ∙ by-line)
 
-    pub turn-stored : f ≡ Nothing → checked Nothing ≡ whole
+    pub turn-stored : f ≡ None → checked None ≡ whole
     turn-stored e = sym (ap checked e) ∙ by-line

@@ -10,9 +10,8 @@ ghost use Rattle.calls.specs.Call.{buffers, ended};
 ghost use Rattle.calls.specs.Turn.{page_path, turn_loaded, turn_path, turn as turning};
 ghost use Rattle.call_laws.specs.Walk.{missing as missing_nodes, path_cells, with_path};
 
-use answer::{Answer, refuse};
-use cache::Found;
-use path::Path;
+use answer::{Answer, Refusal};
+use turn_batch::PageTurn;
 
 // Turns a page of which so many nodes are missing.
 fn turn_loaded(
@@ -35,19 +34,24 @@ fn turn_loaded(
     let block = node::current(h, array, cache, 0, p);
     let major = counter::major(block);
     if major == 0xffff_ffff_ffff_ffff {
-        return refuse(31, 0, 0);
+        return Refusal::WornPage.into();
     }
     let mut minors = [0u8; 64];
     minors::unpack(block, &mut minors);
     let mask = turn_check::places(control, p, &minors);
     let family = control::family(control);
     let bad = turn_check::bad_line(family, keys, array, p, major, &minors, mask);
-    if let Found::At(line) = bad {
-        return refuse(25, line as u64, 0);
+    if let Some(line) = bad {
+        return Refusal::BadData.at(line as u64, 0);
     }
-    turn_store::store_page(
-        h, keys, control, array, cache, p, missing, major, &minors, mask, allowance,
-    )
+    let t = PageTurn {
+        p,
+        missing,
+        major,
+        minors: &minors,
+        mask,
+    };
+    turn_store::store_page(h, keys, control, array, cache, &t, allowance)
 }
 
 // Turns a page of a module that is accepted.
@@ -66,11 +70,10 @@ fn turn_page(
         ≡ turn_path keys.now p allowance (buffers array.old control.old cache.old)
         (page_path keys.now p (buffers array.old control.old cache.old)) }
 {
-    let path = path::walk(h, keys, array, cache, control::root(control), p);
-    let Path::Loaded { missing } = path else {
-        return path::refused(path);
-    };
-    turn_loaded(h, keys, control, array, cache, p, missing, allowance)
+    match path::walk(h, keys, array, cache, control::root(control), p) {
+        Ok(missing) => turn_loaded(h, keys, control, array, cache, p, missing, allowance),
+        Err(node) => node.into(),
+    }
 }
 
 // Turns a page: each of its written lines is encrypted afresh.
@@ -85,9 +88,8 @@ pub fn turn(
     ensures { ended result array.new control.new cache.new
         ≡ turning keys.now page allowance (buffers array.old control.old cache.old) }
 {
-    let number = access::turning(keys, control, array, cache, page);
-    if number != 0 {
-        return refuse(number, 0, 0);
+    if let Err(refusal) = access::turning(keys, control, array, cache, page) {
+        return refusal.into();
     }
     turn_page(
         control::depth(control),

@@ -12,8 +12,8 @@ ghost use Rattle.calls.specs.Write.{write_path, write as writing};
 ghost use Rattle.call_laws.specs.Walk.{missing as missing_nodes};
 ghost use Rattle.line_store.specs.Stored.{stored_line};
 
-use answer::{Answer, refuse};
-use path::Path;
+use answer::{Answer, Refusal};
+use line_batch::LineWrite;
 
 // Writes a text at a counter that is the line's next.
 fn raise(
@@ -22,28 +22,24 @@ fn raise(
     control: &mut [u8],
     array: &mut [u8],
     cache: &mut [u8],
-    line: usize,
+    w: LineWrite,
     text: &[u8],
-    major: u64,
-    minor: u64,
-    missing: u64,
     allowance: u64,
 ) -> Answer
-    requires keys_len { (length keys.now ≡ 48) × ((length text.now ≡ 64) × (minor < 128)) }
+    requires keys_len { (length keys.now ≡ 48) × ((length text.now ≡ 64) × (w.minor < 128)) }
     requires control_len { (length control.old ≡ control_length) × (Sized h array.old cache.old × ((formed h cache.old ≡ true)
-        × ((line < lines h) × (missing ≡ missing_nodes cache.old (page_of line) (suc h))))) }
+        × ((w.line < lines h) × (w.missing ≡ missing_nodes cache.old (page_of w.line) (suc h))))) }
     ensures { ended result array.new control.new cache.new
-        ≡ stored_line h (family_of control.old) keys.now line text.now major minor
-        (with_minor (current h array.old cache.old 0 (page_of line)) (place_of line) minor) allowance
+        ≡ stored_line h (family_of control.old) keys.now w.line text.now w.major w.minor
+        (with_minor (current h array.old cache.old 0 (page_of w.line)) (place_of w.line) w.minor) allowance
         (buffers array.old control.old cache.old) }
 {
     let family = control::family(control);
     let mut block = [0u8; 64];
-    let old = node::current(h, array, cache, 0, memory_map::page_of(line));
-    counter::with_minor(old, memory_map::place_of(line), minor, &mut block);
+    let old = node::current(h, array, cache, 0, memory_map::page_of(w.line));
+    counter::with_minor(old, memory_map::place_of(w.line), w.minor, &mut block);
     line_store::store_line(
-        h, family, keys, control, array, cache, line, text, major, minor, &block, missing,
-        allowance,
+        h, family, keys, control, array, cache, w, text, &block, allowance,
     )
 }
 
@@ -66,26 +62,20 @@ fn write_line(
         (path_of keys.now line (buffers array.old control.old cache.old)) }
 {
     let found = path::find_line(h, keys, control, array, cache, line);
-    let path = found.path;
-    let Path::Loaded { missing } = path else {
-        return path::refused(path);
+    let missing = match found.path {
+        Ok(missing) => missing,
+        Err(node) => return node.into(),
     };
     if found.minor == 127 {
-        return refuse(26, 0, 0);
+        return Refusal::Worn.into();
     }
-    raise(
-        h,
-        keys,
-        control,
-        array,
-        cache,
+    let w = LineWrite {
         line,
-        text,
-        found.major,
-        found.minor + 1,
+        major: found.major,
+        minor: found.minor + 1,
         missing,
-        allowance,
-    )
+    };
+    raise(h, keys, control, array, cache, w, text, allowance)
 }
 
 // Writes a text of 64 bytes to a line.
@@ -102,9 +92,8 @@ pub fn write(
         ≡ writing keys.now line text.now allowance
         (buffers array.old control.old cache.old) }
 {
-    let number = access::access(keys, control, array, cache, line, text);
-    if number != 0 {
-        return refuse(number, 0, 0);
+    if let Err(refusal) = access::access(keys, control, array, cache, line, text) {
+        return refusal.into();
     }
     write_line(
         control::depth(control),

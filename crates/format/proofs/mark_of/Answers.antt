@@ -6,7 +6,7 @@ use Rattle.format.proofs.Laws.{other-mark}
 use Rattle.format.proofs.mark_of.Goals as goal
 
 pub returns-then-family-eq0 : goal.returns-then-family-eq0
-returns-then-family-eq0 c = c.load32.ensures ∙ mark-bytes ∙ ap mark_of (sym c.if-family-eq0.true)
+returns-then-family-eq0 c = c.load.ensures ∙ mark-bytes ∙ ap mark_of (sym c.if-family-eq0.true)
 
 pub returns : goal.returns
-returns c = c.load32-2.ensures ∙ other-mark-bytes ∙ other-mark _ c.if-family-eq0.false
+returns c = c.load-2.ensures ∙ other-mark-bytes ∙ other-mark _ c.if-family-eq0.false

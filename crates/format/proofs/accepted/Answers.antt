@@ -1,4 +1,4 @@
--- `format::refusal` meets its contract. Assumes nothing.
+-- `format::accepted` meets its contract. Assumes nothing.
 use mathlib.Core.Path.{◌≡◌, sym, ◌∙◌}
 use Prim.Native.Nat.{ℕ}
 use native.Mathlib.Omega.{arith}
@@ -6,7 +6,7 @@ use Rattle.calls.specs.Call.{buffers, judged, length_tests}
 use Rattle.calls.specs.Format.{format_refusal}
 use Rattle.call_laws.proofs.Judged.{here, on, end, unlike-true, unlike-false}
 use Rattle.format.proofs.Laws.{too-flat, too-deep, no-family, wrong-keys, wrong-control, lengths-judge}
-use Rattle.format.proofs.refusal.Goals as goal
+use Rattle.format.proofs.accepted.Goals as goal
 
 pub returns-then-depth-lt1 : goal.returns-then-depth-lt1
 returns-then-depth-lt1 c = too-flat _ _ _ _ (omega arith)
