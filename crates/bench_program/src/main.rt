@@ -1,47 +1,34 @@
 // The bench program: formats a module of depth 1 and family 0, runs the commands of its standard input on it, and prints a line for each.
 #![tactic(auto)]
 
-ghost use Rattle.std.specs.Prelude.{◌≡◌};
-ghost use Rattle.calls.specs.Call.{buffers};
-ghost use Rattle.bench_session.specs.Session.{state_of, line_ended, byte_taken, bytes_taken, Took, Served};
+ghost use Rattle.std.specs.Prelude.{◌≡◌, unwrap_or};
+ghost use Rattle.bench_session.specs.Session.{line_ended, byte_taken, bytes_taken, Took, Served};
+ghost use Rattle.lent.specs.Lent.{module_of, Same};
+ghost use Rattle.bench_program.specs.State.{state_in};
 
 use bench_calls::run;
 use bench_session::{allowance_after, has_line};
 use commands::Parser;
+use lent::Lent;
 use std::io::Read;
 
 // What is kept between two bytes of the input.
-#[derive(Drop)]
+#[derive(Clone, Copy)]
 struct Session {
     parser: Parser,
     allowance: u64,
 }
 
 // Runs the command of a line that has ended, and prints; a line that cannot be printed is passed over.
-fn end_line(
-    rt: &impl Print,
-    keys: &[u8],
-    control: &mut [u8],
-    array: &mut [u8],
-    cache: &mut [u8],
-    session: Session,
-) -> Session
-    ensures { state_of result.parser result.allowance array.new control.new cache.new
-        ≡ line_ended keys.now (state_of session.parser session.allowance
-        array.old control.old cache.old) }
+fn end_line(rt: &impl Print, m: &mut Lent<'_>, session: Session) -> Session
+    ensures state { state_in result m.new
+        ≡ line_ended m.old.keys.now (state_in session m.old) }
+    ensures same { Same m.old m.new }
 {
     let parser = session.parser;
     let command = commands::finish(parser);
     let mut line = [0u8; 80];
-    let n = run(
-        keys,
-        control,
-        array,
-        cache,
-        command,
-        session.allowance,
-        &mut line,
-    );
+    let n = run(m, command, session.allowance, &mut line);
     let _ = rt.write_all(&line[..n]);
     Session {
         parser: Parser::Start,
@@ -49,21 +36,13 @@ fn end_line(
     }
 }
 
-fn take_byte(
-    rt: &impl Print,
-    keys: &[u8],
-    control: &mut [u8],
-    array: &mut [u8],
-    cache: &mut [u8],
-    session: Session,
-    b: u8,
-) -> Session
-    ensures { state_of result.parser result.allowance array.new control.new cache.new
-        ≡ byte_taken keys.now (state_of session.parser session.allowance
-        array.old control.old cache.old) b }
+fn take_byte(rt: &impl Print, m: &mut Lent<'_>, session: Session, b: u8) -> Session
+    ensures state { state_in result m.new
+        ≡ byte_taken m.old.keys.now (state_in session m.old) b }
+    ensures same { Same m.old m.new }
 {
     if b == b'\n' {
-        return end_line(rt, keys, control, array, cache, session);
+        return end_line(rt, m, session);
     }
     let parser = session.parser;
     Session {
@@ -73,84 +52,48 @@ fn take_byte(
 }
 
 // Takes a part of the input.
-fn take_bytes(
-    rt: &impl Print,
-    keys: &[u8],
-    control: &mut [u8],
-    array: &mut [u8],
-    cache: &mut [u8],
-    session: Session,
-    input: &[u8],
-) -> Session
-    ensures { state_of result.parser result.allowance array.new control.new cache.new
-        ≡ bytes_taken keys.now (state_of session.parser session.allowance
-        array.old control.old cache.old) input.now }
+fn take_bytes(rt: &impl Print, m: &mut Lent<'_>, session: Session, input: &[u8]) -> Session
+    ensures state { state_in result m.new
+        ≡ bytes_taken m.old.keys.now (state_in session m.old) input.now }
+    ensures same { Same m.old m.new }
 {
     let mut state = session;
-    let mut i = 0;
-    while i < input.len() {
-        let next = take_byte(rt, keys, control, array, cache, state, input[i]);
-        state = next;
-        i += 1;
+    for b in input {
+        state = take_byte(rt, m, state, *b);
     }
     state
 }
 
-// One read of the standard input: whatever bytes it gave, they were taken. A read that fails gives none.
-#[derive(Drop)]
-struct Taken {
-    session: Session,
-    ended: bool,
-}
-
-fn read_input(
-    rt: &(impl Input + Print),
-    keys: &[u8],
-    control: &mut [u8],
-    array: &mut [u8],
-    cache: &mut [u8],
-    session: Session,
-) -> Taken
-    ensures { Took keys.now
-        (state_of session.parser session.allowance array.old control.old cache.old)
-        (state_of result.session.parser result.session.allowance array.new control.new cache.new) }
+// One read of the standard input: whatever bytes it gave, they were taken; None where it gave none, at the end or as it failed.
+fn read_input(rt: &(impl Input + Print), m: &mut Lent<'_>, session: Session) -> Option<Session>
+    ensures took { Took m.old.keys.now (state_in session m.old) (state_in (unwrap_or result session) m.new) }
+    ensures same { Same m.old m.new }
 {
     let mut input = [0u8; 4096];
     let n = rt.reader().read(&mut input).unwrap_or(0);
-    Taken {
-        session: take_bytes(rt, keys, control, array, cache, session, &input[..n]),
-        ended: n == 0,
+    if n == 0 {
+        return None;
     }
+    Some(take_bytes(rt, m, session, &input[..n]))
 }
 
-// Takes the input to its end. A proved loop has to end, so it counts its reads down, from a number that no run uses up.
-fn serve(
-    rt: &(impl Input + Print),
-    keys: &[u8],
-    control: &mut [u8],
-    array: &mut [u8],
-    cache: &mut [u8],
-)
-    ensures { Served keys.now (buffers array.old control.old cache.old)
-        (buffers array.new control.new cache.new) }
+// Takes the input to its end. A proved loop has to end, so it counts its reads, up to a number that no run comes to.
+fn serve(rt: &(impl Input + Print), m: &mut Lent<'_>)
+    ensures { Served m.old.keys.now (module_of m.old) (module_of m.new) }
 {
     let mut session = Session {
         parser: Parser::Start,
         allowance: u64::MAX,
     };
-    let mut reads = u64::MAX;
-    while reads > 0 {
-        let taken = read_input(rt, keys, control, array, cache, session);
-        let after = taken.session;
-        session = after;
-        reads -= 1;
-        if taken.ended {
-            reads = 0;
-        }
+    for _read in 0..u64::MAX {
+        let Some(next) = read_input(rt, m, session) else {
+            break;
+        };
+        session = next;
     }
     let parser = session.parser;
     if has_line(parser) {
-        end_line(rt, keys, control, array, cache, session);
+        end_line(rt, m, session);
     }
 }
 
@@ -162,5 +105,11 @@ fn main(rt: HostRuntime) {
     let mut array = [0u8; 37944];
     let mut cache = [0u8; 438];
     format::format(1, 0, keys, &mut control, &mut array, &mut cache);
-    serve(&rt, keys, &mut control, &mut array, &mut cache);
+    let mut m = Lent {
+        keys,
+        control: &mut control,
+        array: &mut array,
+        cache: &mut cache,
+    };
+    serve(&rt, &mut m);
 }

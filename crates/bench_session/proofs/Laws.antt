@@ -1,25 +1,20 @@
 -- Laws of a command's run. Assumes nothing.
 use mathlib.Core.Path.{◌≡◌, refl, sym, ap, ap₂, ◌∙◌}
-use mathlib.Core.Logic.{inl, inr}
 use mathlib.Core.Bool.{Bool, true, false, cond}
 use mathlib.Core.List.{List, [], ◌∷◌, ◌++◌}
-use denote.Enum.Declared.{tag_of}
-use types.Run.{OneOf}
 use Prim.Native.Nat.{ℕ, ◌+◌, ◌≤◌, ◌<◌}
-use native.Mathlib.Omega.{arith}
 use borrow.Author.Tests.{eq-eqb, ne_eqb}
 use lib.ListN.{length, drop, get_or, drop_of_length-le}
 use Rattle.answer.specs.declared.Answer.{Answer}
 use Rattle.answer.specs.declared.Answer.TheVariants.{Done, Blank, Cut, Refused}
-use Rattle.answer.specs.contracts.Answer.{the_type}
-use Rattle.calls.specs.Call.{Module, buffers}
+use Rattle.calls.specs.Call.{Module}
 use Rattle.commands.specs.declared.Command.{Command}
 use Rattle.commands.specs.declared.Parser.{Parser}
 use Rattle.commands.specs.declared.Parser.TheVariants.{Start}
 use Rattle.commands.specs.Machine.{next, found}
 use Rattle.parsing.proofs.Steps.{byte_more}
 use Rattle.answer_text.specs.Printed.{line_of}
-use Rattle.bench_session.specs.Session.{ran_to, ran, settled, unlimited, allowance_after, Told, told_to, settled_to, told}
+use Rattle.bench_session.specs.Session.{ran_to, ran, settled, allowance_after, Told, told_to, settled_to, told}
 use Rattle.bench_session.specs.Session.{State, state_of, line_ended, byte_taken, bytes_taken, has_line, input_ended, started, Took, Served}
 
 -- what is not cut keeps the cache
@@ -71,6 +66,11 @@ unfolding bytes_taken
 taken_more keys [] ys s = refl
 taken_more keys (x ∷ xs) ys s = taken_more keys xs ys (byte_taken keys s x)
 
+-- no part of the input
+pub took-none : (keys : List ℕ) (s : State) → Took keys s s
+unfolding bytes_taken
+took-none keys s = record { read = []; taken = refl }
+
 pub took_more : {keys : List ℕ} {s t u : State} → Took keys s t → Took keys t u → Took keys s u
 took_more {keys} {s} {t} {u} x y =
     record {
@@ -89,20 +89,3 @@ module _ {keys : List ℕ} {m : Module} {s : State} (x : Took keys (started m) s
 
   pub served : false ≡ has_line s.parser → Served keys m s.left
   served e = record { input = x.read; left = ap (λ (z : State). z.left) (ended false (sym e)) }
-
--- between two reads: what was read so far was taken, and the buffers have their lengths
-pub record Going (keys a₀ k₀ c₀ : List ℕ) (p : Parser) (n : ℕ) (a k c : List ℕ) : Type 0 where
-  pub took : Took keys (started (buffers a₀ k₀ c₀)) (state_of p n a k c)
-  pub array : length a ≡ length a₀
-  pub control : length k ≡ length k₀
-  pub cache : length c ≡ length c₀
-
-pub going-first : (keys a k c : List ℕ) → Going keys a k c Start unlimited a k c
-unfolding bytes_taken
-going-first keys a k c = record { took = record { read = []; taken = refl }; array = refl; control = refl; cache = refl }
-
-pub going_on : {keys a₀ k₀ c₀ : List ℕ} {p : Parser} {n : ℕ} {a k c : List ℕ} {q : Parser} {i : ℕ} {a' k' c' : List ℕ}
-    → Going keys a₀ k₀ c₀ p n a k c → Took keys (state_of p n a k c) (state_of q i a' k' c')
-    → length a' ≡ length a → length k' ≡ length k → length c' ≡ length c
-    → Going keys a₀ k₀ c₀ q i a' k' c'
-going_on g x e f h = record { took = took_more g.took x; array = e ∙ g.array; control = f ∙ g.control; cache = h ∙ g.cache }

@@ -11,8 +11,7 @@ use Rattle.answer.specs.declared.Answer.{Answer}
 use Rattle.answer.specs.declared.Answer.TheVariants.{Done, Blank, Cut, Refused}
 use Rattle.counter.specs.Counter.{major}
 use Rattle.control.specs.Control.{Cell, family, depth, root}
-use Rattle.cache.specs.declared.Found.{Found}
-use Rattle.cache.specs.declared.Found.TheVariants.{Nothing, At}
+use Rattle.std.specs.Prelude.{Option, None, Some}
 use Rattle.tag.specs.Tag.{node_tag}
 use Rattle.cache.specs.Cache.{current}
 use Rattle.journal.specs.Journal.{Store, batch_stores, is_cut, pending_stores}
@@ -130,10 +129,10 @@ module _ (keys : List ℕ) (line : ℕ) (text : List ℕ) (allowance : ℕ) (m :
   write-fits = write-judged (access_refusal keys line text m) (access-small keys line text m)
 
 module _ (keys : List ℕ) (p allowance : ℕ) (m : Module) where
-  turn-checked : (c : List ℕ) (x : List Cell) (f : Found) → Fits (turn_checked keys p allowance m c x f)
+  turn-checked : (c : List ℕ) (x : List Cell) (f : Option ℕ) → Fits (turn_checked keys p allowance m c x f)
   unfolding turn_checked
-  turn-checked c x (At n) = refused-fits 25 0 n 0 m (lit≤ tt)
-  turn-checked c x Nothing = storing-fits allowance m _ _ _ (done-fits _ 0)
+  turn-checked c x (Some n) = refused-fits 25 0 n 0 m (lit≤ tt)
+  turn-checked c x None = storing-fits allowance m _ _ _ (done-fits _ 0)
 
   turn-path : (l : Loaded) → Fits (turn_path keys p allowance m l)
   unfolding turn_path turn_loaded
@@ -170,10 +169,10 @@ module _ (keys : List ℕ) where
   recover-rebuilt k m os (so_far d sum) e = recover-root k m sum _
   recover-rebuilt k m os (failed n x) e = refused-fits n k x 0 m (step_small (family m.control) e)
 
-  recover-shadow : (k : ℕ) (m : Module) (os : List ℕ) (f : Found) → Fits (recover_shadow keys k m os f)
+  recover-shadow : (k : ℕ) (m : Module) (os : List ℕ) (f : Option ℕ) → Fits (recover_shadow keys k m os f)
   unfolding recover_shadow
-  recover-shadow k m os (At s) = refused-fits 27 k s 0 m (lit≤ tt)
-  recover-shadow k m os Nothing =
+  recover-shadow k m os (Some s) = refused-fits 27 k s 0 m (lit≤ tt)
+  recover-shadow k m os None =
       recover-rebuilt k m os _
       (blocks_end (StepRefusal (family m.control)) (depth m.control) keys (media_of m)
       (λ ma. line_step_lem (source_of keys (media_of m) ma)) _ _ _ _)

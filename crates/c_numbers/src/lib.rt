@@ -6,16 +6,16 @@ ghost use Rattle.words.specs.Bytes.{bytes_of};
 ghost use Rattle.answer.specs.Answer.{code_of, values_of};
 
 use answer::Answer;
-use words::store64;
+use words::Word;
 
 // Writes three numbers.
 fn put_numbers(numbers: &mut [u8], stores: u64, first: u64, second: u64)
     requires { length numbers.old ≡ 24 }
     ensures { numbers.new ≡ bytes_of 8 (stores ∷ first ∷ second ∷ []) }
 {
-    store64(numbers, 0, stores);
-    store64(numbers, 8, first);
-    store64(numbers, 16, second);
+    u64::store(numbers, 0, stores);
+    u64::store(numbers, 8, first);
+    u64::store(numbers, 16, second);
 }
 
 // Writes the numbers of an answer, and gives its code.

@@ -5,6 +5,8 @@
 ghost use Rattle.std.specs.Prelude.{◌≡◌};
 ghost use Rattle.c_primitives.specs.Primitives.{code, block_sizes, block_out, hash_sizes, hash_out};
 
+use words::Word;
+
 // The ChaCha20 block of a key of 32 bytes, a counter and a nonce of 12 bytes, into 64 bytes.
 #[unsafe(no_mangle)]
 pub extern "C" fn nv_chacha20_block(key: &[u8], counter: u32, nonce: &[u8], out: &mut [u8]) -> u32
@@ -37,6 +39,6 @@ pub extern "C" fn nv_siphash24(key: &[u8], message: &[u8], out: &mut [u8]) -> u3
     if out.len() != 8 {
         return 1;
     }
-    words::store64(out, 0, siphash_message::hash(key, message));
+    u64::store(out, 0, siphash_message::hash(key, message));
     0
 }

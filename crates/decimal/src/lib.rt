@@ -12,12 +12,6 @@ pub enum Number {
     Bad,
 }
 
-fn wide(x: u8) -> u64
-    ensures { result ≡ x }
-{
-    x as u64
-}
-
 // A number and one byte more.
 fn digit_after(n: u64, b: u8) -> Number
     ensures { result ≡ digit_after n b }
@@ -32,7 +26,7 @@ fn digit_after(n: u64, b: u8) -> Number
         return Number::Bad;
     }
     let tens = 10 * n;
-    let digit = wide(b) - 48;
+    let digit = u64::from(b) - 48;
     if u64::MAX - tens < digit {
         return Number::Bad;
     }

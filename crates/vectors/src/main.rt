@@ -3,16 +3,11 @@
 #![tactic(auto)]
 
 use std::io;
-
-fn wide(x: u8) -> u64 {
-    x as u64
-}
+use words::Word;
 
 fn print_bytes(rt: &impl Print, s: &[u8]) -> io::Result<()> {
-    let mut i = 0;
-    while i < s.len() {
-        print!(rt; "{:02x}", wide(s[i]))?;
-        i += 1;
+    for b in s {
+        print!(rt; "{b:02x}")?;
     }
     Ok(())
 }
@@ -63,10 +58,8 @@ fn appendix_a_1(rt: &impl Print) -> io::Result<()> {
 // The bytes 00 to 3f.
 fn counting() -> [u8; 64] {
     let mut s = [0u8; 64];
-    let mut i = 0;
-    while i < 64 {
-        s[i] = i as u8;
-        i += 1;
+    for i in 0..64u8 {
+        s[usize::from(i)] = i;
     }
     s
 }
@@ -76,17 +69,15 @@ fn siphash_line(rt: &impl Print, message: &[u8]) -> io::Result<()> {
     print!(rt; "siphash {} ", message.len())?;
     let key = b"\x00\x01\x02\x03\x04\x05\x06\x07\x08\x09\x0a\x0b\x0c\x0d\x0e\x0f";
     let mut out = [0u8; 8];
-    words::store64(&mut out, 0, siphash_message::hash(key, message));
+    u64::store(&mut out, 0, siphash_message::hash(key, message));
     end_line(rt, &out)
 }
 
 // The vectors of the SipHash paper's reference code (vectors.h): the messages 00, 01, .. of lengths 0 to 63.
 fn reference_vectors(rt: &impl Print) -> io::Result<()> {
     let s = counting();
-    let mut n = 0;
-    while n < 64 {
+    for n in 0..64 {
         siphash_line(rt, &s[..n])?;
-        n += 1;
     }
     Ok(())
 }

@@ -3,6 +3,6 @@ use mathlib.Core.Path.{ap}
 use Rattle.bench_session.specs.Session.{ran, read_to}
 use Rattle.bench_calls.proofs.call_read.Goals as goal
 
-pub returns : goal.returns
+pub returns-clause-ran : goal.returns-clause-ran
 unfolding ran
-returns c = ap read_to c.read-answer.ensures
+returns-clause-ran c = ap read_to c.read-answer.ensures

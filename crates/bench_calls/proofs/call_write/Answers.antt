@@ -4,6 +4,6 @@ use Rattle.calls.specs.Call.{Called}
 use Rattle.bench_session.specs.Session.{ran}
 use Rattle.bench_calls.proofs.call_write.Goals as goal
 
-pub returns : goal.returns
+pub returns-clause-ran : goal.returns-clause-ran
 unfolding ran
-returns c = ap (λ (x : Called). record { called = x; first = 0 }) c.write-answer.ensures
+returns-clause-ran c = ap (λ (x : Called). record { called = x; first = 0 }) c.write-answer.ensures

@@ -1,24 +1,31 @@
 -- `bench_program::serve` meets its contract. Assumes nothing.
-use Rattle.std.proofs.Common.{sym, ◌∙◌}
-use Rattle.bench_session.proofs.Laws.{going-first, going_on, served, served-line}
+use Rattle.std.proofs.Common.{List, ℕ, ap, sym, ◌∙◌}
+use Rattle.bench_session.specs.Session.{line_ended}
+use Rattle.bench_session.proofs.Laws.{served, served-line}
+use Rattle.bench_program.specs.State.{state_in}
+use Rattle.bench_program.proofs.Going.{Going, going-first, going-more, going-ended}
 use Rattle.bench_program.proofs.serve.Goals as goal
+use Rattle.bench_program.proofs.serve.Goals.{else-loop-read-test, then-loop-read-test+in_default}
 
-pub loop-reads-init : goal.loop-reads-init
-loop-reads-init g c = going-first c.args.keys.now c.args.array.now c.args.control.now c.args.cache.now
+pub loop-read-init : goal.loop-read-init
+loop-read-init g c = going-first c.args.m.now
 
-pub loop-reads-preserved-then-taken : goal.loop-reads-preserved-then-taken
-loop-reads-preserved-then-taken g c =
-    let k = c.read_input-taken in
-    going_on c.loop-reads.invariant k.ensures k.auto.array k.auto.control k.auto.cache
-
-pub loop-reads-preserved : goal.loop-reads-preserved
-loop-reads-preserved g c =
-    let k = c.read_input-taken in
-    going_on c.loop-reads.invariant k.ensures k.auto.array k.auto.control k.auto.cache
+pub loop-read-preserved : goal.loop-read-preserved
+loop-read-preserved g c = let k = c.read_input.ensures in going-more c.loop-read.invariant k.took k.same c.in-Some.is
 
 pub returns-then-has_line : goal.returns-then-has_line
 returns-then-has_line g c =
-    served-line c.loop-reads.invariant.took (sym c.if-has_line.true ∙ c.has_line.ensures) c.end_line.ensures
+    let gone : Going c.args.m.now c.loop-read.session c.loop-read-test.m = elim c.loop-read-test.branch [
+      | else-loop-read-test w ↦ rw w.m-is c.loop-read.invariant
+      | then-loop-read-test+in_default w ↦ let k = w.read_input.ensures in rw w.m-is (going-ended c.loop-read.invariant k.took k.same w.in_default.is)
+    ] in
+    served-line gone.took (sym c.if-has_line.true ∙ c.has_line.ensures)
+    (c.end_line.ensures.state ∙ ap (λ (k : List ℕ). line_ended k (state_in c.loop-read.session c.loop-read-test.m)) gone.same.keys)
 
 pub returns-else-has_line : goal.returns-else-has_line
-returns-else-has_line g c = served c.loop-reads.invariant.took (sym c.if-has_line.false ∙ c.has_line.ensures)
+returns-else-has_line g c =
+    let gone : Going c.args.m.now c.loop-read.session c.loop-read-test.m = elim c.loop-read-test.branch [
+      | else-loop-read-test w ↦ rw w.m-is c.loop-read.invariant
+      | then-loop-read-test+in_default w ↦ let k = w.read_input.ensures in rw w.m-is (going-ended c.loop-read.invariant k.took k.same w.in_default.is)
+    ] in
+    served gone.took (sym c.if-has_line.false ∙ c.has_line.ensures)

@@ -1,12 +1,10 @@
-use Rattle.std.proofs.Common.{◌≡◌, ◌-◌, ◌≤◌, length, drop}
-use Rattle.bench_session.specs.Session.{state_of, bytes_taken}
+use Rattle.std.proofs.Common.{◌≡◌, drop}
+use Rattle.bench_session.specs.Session.{bytes_taken}
+use Rattle.lent.specs.Lent.{Same}
+use Rattle.bench_program.specs.State.{state_in}
 use Rattle.bench_program.proofs.take_bytes.Given as goal
 
-abbrev pub invariant-loop-i : goal.invariant-loop-i
-invariant-loop-i g l =
-    (l.i ≤ length l.input) × (bytes_taken l.keys (state_of l.state.parser l.state.allowance l.array l.control l.cache) (drop l.i l.input)
-    ≡ bytes_taken l.keys
-    (state_of l.initial.state.parser l.initial.state.allowance l.initial.array l.initial.control l.initial.cache) l.input)
-
-abbrev pub decreases-loop-i : goal.decreases-loop-i
-decreases-loop-i g l = length l.input - l.i
+abbrev pub invariant-loop-b : goal.invariant-loop-b
+invariant-loop-b g l =
+    (bytes_taken l.initial.m.keys.now (state_in l.state l.m) (drop l.b-index l.input)
+    ≡ bytes_taken l.initial.m.keys.now (state_in l.initial.state l.initial.m) l.input) × Same l.initial.m l.m

@@ -8,7 +8,7 @@ use Rattle.c_numbers.proofs.put_numbers.Goals as goal
 
 pub returns : goal.returns
 returns c =
-    c.store64-3.ensures
+    c.store-3.ensures
     ∙ ap (λ (l : List ℕ). put l 16 (to_le 8 c.args.second))
-    (c.store64-2.ensures ∙ ap (λ (l : List ℕ). put l 8 (to_le 8 c.args.first)) c.store64.ensures)
+    (c.store-2.ensures ∙ ap (λ (l : List ℕ). put l 8 (to_le 8 c.args.first)) c.store.ensures)
     ∙ numbers-put c.args.numbers.now c.args.stores c.args.first c.args.second c.requires

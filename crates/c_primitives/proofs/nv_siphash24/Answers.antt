@@ -22,5 +22,5 @@ pub returns : goal.returns
 unfolding hash_sizes hash_out
 returns c =
     done _ (right-then c.if-key-ne16.false (eq-eqb _ _ c.if-out-ne8.false))
-    (c.store64.ensures ∙ put_all c.args.out.now (to_le 8 c.hash.result) (omega (arith, length_digits 256 8 c.hash.result))
+    (c.store.ensures ∙ put_all c.args.out.now (to_le 8 c.hash.result) (omega (arith, length_digits 256 8 c.hash.result))
     ∙ ap (to_le 8) c.hash.ensures)
