@@ -584,8 +584,7 @@ static void tear_commits(enum scenario s)
     free_listed(&l);
 }
 
-// Says what comes of it, and holds it to what the documents say of this build: another that stores the mask of the section
-// before its count is refused as 121 after a last batch, too.
+// Says what comes of it, and holds it to what the documents say.
 static int torn_commits(void)
 {
     static const uint8_t expected[FAMILIES][BATCHES][OUTCOMES] = {
@@ -593,13 +592,13 @@ static int torn_commits(void)
             [ONLY] = { [WELL] = 1 },
             [FIRST] = { [WELL] = 1, [BAD_ROOT] = 1, [OWN_LINE] = 1 },
             [MIDDLE] = { [OWN_LINE_BAD_ROOT] = 1 },
-            [LAST] = { [BAD_ROOT] = 1, [BAD_COUNTER] = 1, [LINES_BEFORE] = 1 },
+            [LAST] = { [BAD_CONTROL] = 1, [BAD_ROOT] = 1, [BAD_COUNTER] = 1, [LINES_BEFORE] = 1 },
         },
         [NV_FAMILY_TAG] = {
             [ONLY] = { [WELL] = 1 },
             [FIRST] = { [WELL] = 1, [BAD_ROOT] = 1, [OWN_LINE_NO_COUNTER] = 1 },
             [MIDDLE] = { [OWN_LINE_NO_COUNTER] = 1 },
-            [LAST] = { [NO_COUNTER] = 1 },
+            [LAST] = { [BAD_CONTROL] = 1, [NO_COUNTER] = 1 },
         },
     };
     int failed = 0;

@@ -94,13 +94,13 @@ pub fn turn_mask(control: &[u8]) -> u64
     u64::load(control, TURN_MASK)
 }
 
-// Writes the section of a turn.
+// Writes the section of a turn, its count last.
 pub fn put_turn(control: &mut [u8], count: u8, page: u64, mask: u64)
     requires { length control.old ≡ control_length }
     ensures { control.new ≡ put control.old turn_at (turn_bytes count page mask) }
 {
-    u64::store(control, TURN_PAGE, page);
     u64::store(control, TURN_MASK, mask);
+    u64::store(control, TURN_PAGE, page);
     control[TURN] = count;
 }
 

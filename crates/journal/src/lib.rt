@@ -76,7 +76,9 @@ pub fn run(array: &mut [u8], control: &mut [u8], n: usize, root: u64, allowance:
     n as u64 + 1 + finish(array, control, left)
 }
 
-// The same for a batch of a turn, whose commit also stores the section: its count, its page and its mask.
+// The same for a batch of a turn, whose commit also stores the section: its count, its page and its mask. A call in the machine code
+// too: where a compiler sees that a section becomes all zero, it may store the count ahead of the mask.
+#[inline(never)]
 pub fn run_turn(
     array: &mut [u8],
     control: &mut [u8],
