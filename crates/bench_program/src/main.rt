@@ -79,7 +79,7 @@ fn read_input(rt: &(impl Input + Print), m: &mut Lent<'_>, session: Session) -> 
 
 // Takes the input to its end. A proved loop has to end, so it counts its reads, up to a number that no run comes to.
 fn serve(rt: &(impl Input + Print), m: &mut Lent<'_>)
-    ensures { Served m.old.keys.now (module_of m.old) (module_of m.new) }
+    ensures { Served m.old.keys.now (module_of m.old) (module_of m.new) × Same m.old m.new }
 {
     let mut session = Session {
         parser: Parser::Start,
