@@ -1,5 +1,5 @@
 -- Counter slots rebuilt one by one. Assumes nothing.
-use mathlib.Core.Path.{◌≡◌, refl, sym, ap, ap₂, ◌∙◌}
+use mathlib.Core.Path.{◌≡◌, refl, sym, ap, ap₂, ◌∙◌, subst}
 use mathlib.Core.Bool.{cond}
 use mathlib.Core.List.{List, ◌∷◌}
 use Prim.Native.Nat.{ℕ, zero, suc, ◌+◌, ◌-◌, ◌*◌, ◌≤◌, ◌<◌}
@@ -12,7 +12,7 @@ use Rattle.memory_map.specs.Map.{InMap, cell_of, slots, lines, level_start, arra
 use Rattle.memory_map.specs.Map.Item.{node}
 use Rattle.memory_map.proofs.Laws.{in-map-node, nodes-bottom, node-cell}
 use Rattle.slot_map.specs.Slots.{level_of, cache_length}
-use Rattle.slot_map.proofs.Laws.{belongs-node, level-within}
+use Rattle.slot_map.proofs.Laws.{belongs-node, level-within, level-low}
 use Rattle.counter.specs.Counter.{major, minors, counter_block}
 use Rattle.counter.proofs.Laws.{length-counter_block}
 use Rattle.control.specs.Control.{family, is_open}
@@ -23,7 +23,7 @@ use Rattle.journal.specs.Journal.{Media}
 use Rattle.calls.specs.Recovery.{bad, Source, line_step, source_of, Forwarded, so_far, failed, onward, forward_page}
 use Rattle.calls.specs.Recovery.{rebuild_block, rebuild_slot, rebuild_blocks}
 use Rattle.forwarding.specs.Rebuild.{Placed, source_is}
-use Rattle.forwarding.proofs.Forward.{Forwarding, page-fails, page-all, after, page-after}
+use Rattle.forwarding.proofs.Forward.{Forwarding, page-fails, page-all}
 
 -- the owners from slot s on, of n
 abbrev pub left : List ℕ → ℕ → ℕ → List ℕ
@@ -60,62 +60,15 @@ pub few-slots : (h : ℕ) {s : ℕ} → s < 4 → s < slots h
 unfolding slots
 few-slots h p = omega arith
 
+-- the page of a filled counter slot
+pub placed-page : (h : ℕ) (os : List ℕ) → Placed h os → (s : ℕ) → s < 4 → (get_or os s 0 ≡ 0 → ⊥)
+    → InMap h (node 0 (get_or os s 0 - 1))
+placed-page h os f s p q =
+    subst (λ (l : ℕ). InMap h (node l (get_or os s 0 - 1))) (level-low s p) (placed-node h os f s _ (few-slots h p) refl q)
+
 -- an owner that is not 0
 pub filled : (o : ℕ) → (o ≡ 0 → ⊥) → o ≡ suc (o - 1)
 filled o p = omega arith
-
--- ---- the block of a page
-
-module _ (h : ℕ) (keys : List ℕ) (m : Media) (c : List ℕ) (s p : ℕ) where
-  open m use {array as a, control as k}
-
-  -- the page's block there
-  abbrev there : List ℕ
-  there = cell_content a (cell_of h (node 0 p))
-
-  -- with its minors brought forward, in its slot
-  abbrev filling : List ℕ → ℕ → Forwarded
-  filling ns t = so_far (with_slot c s (suc p) 1 (counter_block (major there) ns)) t
-
-  -- the sum of the pages before it
-  pub block-after : (sum : ℕ) → rebuild_block h keys m c sum s p ≡ after sum (rebuild_block h keys m c 0 s p)
-  unfolding rebuild_block onward after
-  block-after sum =
-      ap (λ (r : Forwarded). onward r filling) (page-after k (source_of keys m (major there)) p (minors there) sum)
-      ∙ go (forward_page k (source_of keys m (major there)) p (minors there) 0)
-    where
-      go : (r : Forwarded) → onward (after sum r) filling ≡ after sum (onward r filling)
-      go (so_far l t) = refl
-      go (failed i n) = refl
-
-  -- the block b lies in cell i, and its minors ms are brought forward in cur
-  module _ {i : ℕ} {b ms cur : List ℕ} {j t : ℕ} (cell : i ≡ cell_of h (node 0 p)) (block : b ≡ cell_content a i) (unpacked : ms ≡ minors b)
-      {ma g : ℕ} (majored : ma ≡ major b) (told : g ≡ family k)
-      (f : Forwarding (source_is g keys a ma) (64 * p) ms 0 cur j t) {n : ℕ} (bound : n ≡ cond (is_open k p) 0 64) where
-    abbrev source : Source
-    source = source_is g keys a ma
-
-    here : b ≡ there
-    here = block ∙ ap (cell_content a) cell
-
-    block-is : {r : Forwarded} → forward_page k source p ms 0 ≡ r → rebuild_block h keys m c 0 s p ≡ onward r filling
-    unfolding rebuild_block
-    block-is {r} e =
-        ap (λ (r : Forwarded). onward r filling)
-        (ap₂ {C = Forwarded} (λ (l x : List ℕ). forward_page k (source_of keys m (major x)) p l 0) (sym (unpacked ∙ ap minors here)) (sym here)
-        ∙ ap₂ {C = Forwarded} (λ (i n : ℕ). forward_page k (source_is i keys a n) p ms 0) (sym told) (sym majored) ∙ e)
-
-    pub block-fails : j < n → {i : ℕ} → bad i ≡ line_step source (64 * p + j) (get_or cur j 0)
-        → failed i (64 * p + j) ≡ rebuild_block h keys m c 0 s p
-    unfolding onward
-    block-fails q e = sym (block-is (page-fails k source p ms 0 f bound q e))
-
-    pub block-all : j ≤ n → n ≤ j → {d : List ℕ} → d ≡ with_slot c s (p + 1) 1 (counter_block ma cur) → so_far d t ≡ rebuild_block h keys m c 0 s p
-    unfolding onward
-    block-all q r {d} e =
-        ap (λ (x : List ℕ). so_far x t)
-        (e ∙ ap₂ {C = List ℕ} (λ (o x : ℕ). with_slot c s o 1 (counter_block x cur)) (add-one p) (majored ∙ ap major here))
-        ∙ sym (block-is (page-all k source p ms 0 f bound q r))
 
 -- ---- the slots
 
@@ -164,32 +117,79 @@ module _ (h : ℕ) (keys : List ℕ) (m : Media) (os : List ℕ) where
       unfolding rebuild_slot
       blocks-empty e = slot-first (ap (rebuild_slot h keys m c sum s) e)
 
-      -- a filled slot: r is told of its page's block
-      module _ (some· : owner s ≡ 0 → ⊥) {r : Forwarded} (e : r ≡ rebuild_block h keys m c 0 s (owner s - 1)) where
-        slot-filled : rebuild_slot h keys m c sum s (owner s) ≡ after sum r
+      -- a filled slot: the owner's block b, and the minors ms of this
+      module _ (some· : owner s ≡ 0 → ⊥) {b ms : List ℕ} (u : b ≡ cell_content a (cell_of h (node 0 (owner s - 1))))
+          (w : ms ≡ minors b) where
+        block : rebuild_slot h keys m c sum s (owner s) ≡ rebuild_block h keys m c sum s (owner s - 1)
         unfolding rebuild_slot
-        slot-filled =
-            ap (rebuild_slot h keys m c sum s) (filled (owner s) some·) ∙ block-after h keys m c s (owner s - 1) sum ∙ ap (after sum) (sym e)
+        block = ap (rebuild_slot h keys m c sum s) (filled (owner s) some·)
 
-      blocks-fails : (owner s ≡ 0 → ⊥) → {i n : ℕ} → failed i n ≡ rebuild_block h keys m c 0 s (owner s - 1) → blocks_from s c sum ≡ failed i n
-      unfolding onward after
-      blocks-fails z e = slot-then (slot-filled z e)
+        as-minors : ms ≡ minors (cell_content a (cell_of h (node 0 (owner s - 1))))
+        as-minors = w ∙ ap minors u
 
-      blocks-next : (owner s ≡ 0 → ⊥) → {d : List ℕ} {t : ℕ} → so_far d t ≡ rebuild_block h keys m c 0 s (owner s - 1)
-          → blocks_from s c sum ≡ blocks_from (s + 1) d (sum + t)
-      unfolding after
-      blocks-next z e = slot-first (slot-filled z e)
+        -- what its lines are brought forward by
+        abbrev source : Source
+        source = source_of keys m (major b)
+
+        -- the block's minors brought forward, and then its slot
+        slot-forward : {r : Forwarded} → forward_page k source (owner s - 1) ms sum ≡ r
+            → let b = cell_content a (cell_of h (node 0 (owner s - 1))) in
+            rebuild_slot h keys m c sum s (owner s)
+            ≡ onward r (λ (ns : List ℕ) (t : ℕ). so_far (with_slot c s (suc (owner s - 1)) 1 (counter_block (major b) ns)) t)
+        unfolding rebuild_block
+        slot-forward f =
+            block
+            ∙ ap (λ (r : Forwarded). onward r (λ (ns : List ℕ) (t : ℕ). so_far
+            (with_slot c s (suc (owner s - 1)) 1 (counter_block (major (cell_content a (cell_of h (node 0 (owner s - 1))))) ns)) t))
+            (ap₂ {C = Forwarded} (λ (l x : List ℕ). forward_page k (source_of keys m (major x)) (owner s - 1) l sum)
+            (sym as-minors) (sym u)
+            ∙ f)
+
+        blocks-fails : (j n : ℕ) → forward_page k source (owner s - 1) ms sum ≡ failed j n → blocks_from s c sum ≡ failed j n
+        unfolding onward
+        blocks-fails j n f = slot-then (slot-forward f)
+
+        blocks-next : {cur d : List ℕ} {t ma : ℕ} → forward_page k source (owner s - 1) ms sum ≡ so_far cur t → ma ≡ major b
+            → d ≡ with_slot c s (owner s) 1 (counter_block ma cur) → blocks_from s c sum ≡ blocks_from (s + 1) d t
+        unfolding onward
+        blocks-next {cur} {d} {t} {ma} f q z =
+            slot-first (slot-forward f
+            ∙ ap (λ (x : List ℕ). so_far x t)
+            (ap₂ {C = List ℕ} (λ (o i : ℕ). with_slot c s o 1 (counter_block i cur))
+            (sym (filled (owner s) some·)) (sym (q ∙ ap major u))
+            ∙ sym z))
 
     module _ {first c : List ℕ} {sum s : ℕ} (r : Rebuilding first c sum s) (p : s < 4) where
       pub rebuilding-empty : owner s ≡ 0 → Rebuilding first c sum (s + 1)
       rebuilding-empty e =
           record { few = omega (arith, r.few); full = r.full; rest = r.rest ∙ blocks-empty s p c sum e }
 
-      pub rebuilding-fails : (owner s ≡ 0 → ⊥) → {i n : ℕ} → failed i n ≡ rebuild_block h keys m c 0 s (owner s - 1)
-          → blocks_from 0 first 0 ≡ failed i n
-      rebuilding-fails z e = r.rest ∙ blocks-fails s p c sum z e
+      -- the owner's block b lies in cell i, and its minors ms are brought forward in cur
+      module _ (some· : owner s ≡ 0 → ⊥) {i : ℕ} {b ms cur : List ℕ} {j t : ℕ} (cell : i ≡ cell_of h (node 0 (owner s - 1)))
+          (block : b ≡ cell_content a i) (unpacked : ms ≡ minors b) {ma g : ℕ} (majored : ma ≡ major b) (told : g ≡ family k)
+          (f : Forwarding (source_is g keys a ma) (64 * (owner s - 1)) ms sum cur j t) {n : ℕ}
+          (bound : n ≡ cond (is_open k (owner s - 1)) 0 64) where
+        -- the line after those that are brought forward
+        abbrev line : ℕ
+        line = 64 * (owner s - 1) + j
 
-      pub rebuilding-next : (owner s ≡ 0 → ⊥) → {d : List ℕ} {t : ℕ} → so_far d t ≡ rebuild_block h keys m c 0 s (owner s - 1) → t ≤ 192
-          → length d ≡ length c → Rebuilding first d (sum + t) (s + 1)
-      rebuilding-next z e least l =
-          record { few = omega (arith, r.few); full = l ∙ r.full; rest = r.rest ∙ blocks-next s p c sum z e }
+        as_source : {x : Forwarded} → forward_page k (source_is g keys a ma) (owner s - 1) ms sum ≡ x
+            → forward_page k (source_of keys m (major b)) (owner s - 1) ms sum ≡ x
+        as_source e =
+            ap₂ {C = Forwarded} (λ (i n : ℕ). forward_page k (source_is i keys a n) (owner s - 1) ms sum) (sym told) (sym majored) ∙ e
+
+        pub rebuilding-fails : j < n → {v : ℕ} → bad v ≡ line_step (source_is g keys a ma) line (get_or cur j 0)
+            → blocks_from 0 first 0 ≡ failed v line
+        rebuilding-fails q {v} e =
+            r.rest ∙ blocks-fails s p c sum some· (block ∙ ap (cell_content a) cell) unpacked v line
+            (as_source (page-fails k (source_is g keys a ma) (owner s - 1) ms sum f bound q e))
+
+        pub rebuilding-next : j ≤ n → n ≤ j → n ≤ 64 → {d : List ℕ} → d ≡ with_slot c s (owner s) 1 (counter_block ma cur)
+            → length d ≡ length c → Rebuilding first d t (s + 1)
+        rebuilding-next q all most e l =
+            record {
+              few = omega (arith, r.few, f.least);
+              full = l ∙ r.full;
+              rest = r.rest ∙ blocks-next s p c sum some· (block ∙ ap (cell_content a) cell) unpacked
+                  (as_source (page-all k (source_is g keys a ma) (owner s - 1) ms sum f bound q all)) majored e;
+            }

@@ -1,7 +1,7 @@
 -- Minors brought forward one by one. Assumes nothing.
 use mathlib.Core.Path.{◌≡◌, refl, sym, ap, ap₂, ◌∙◌, subst}
 use mathlib.Core.Bool.{Bool, true, false, cond}
-use mathlib.Core.List.{List, [], ◌∷◌, ◌++◌}
+use mathlib.Core.List.{List, []}
 use Prim.Native.Nat.{ℕ, zero, suc, ◌+◌, ◌-◌, ◌*◌, ◌≤◌, ◌<◌}
 use native.Mathlib.Nat.{add-zero, le_refl}
 use native.Mathlib.Numerals.{add-one}
@@ -184,35 +184,3 @@ module _ (k : List ℕ) (x : Source) (p : ℕ) (ss : List ℕ) (first : ℕ) {cu
       go : (b : Bool) → n ≡ cond b 0 64 → cond b (so_far ss first) (forward_from x (64 * p) ss [] first) ≡ so_far cur sum
       go true w = let same = f.begun (omega arith) in sym (ap₂ so_far same.0 same.1)
       go false w = forwarding-all x (64 * p) ss first f (omega arith)
-
--- ---- a page's own sum
-
--- as it is told, after a sum
-unfoldable pub after : ℕ → Forwarded → Forwarded
-after n (so_far l t) = so_far l (n + t)
-after n (failed k i) = failed k i
-
-from-after : (x : Source) (a : ℕ) (ss : List ℕ) (n : ℕ) (ms : List ℕ) (b : ℕ)
-    → forward_from x n ss ms (a + b) ≡ after a (forward_from x n ss ms b)
-unfolding forward_from after stepped onward
-from-after x a [] n ms b = refl
-from-after x a (s ∷ ss) n ms b = go (line_step x n s) (λ v. from-after x a ss (suc n) (ms ++ (v ∷ [])) (b + (v - s)))
-  where
-    go : (t : Step) → ((v : ℕ) → forward_from x (suc n) ss (ms ++ (v ∷ [])) (a + (b + (v - s)))
-        ≡ after a (forward_from x (suc n) ss (ms ++ (v ∷ [])) (b + (v - s))))
-        → onward (stepped t n s ms (a + b)) (forward_from x (suc n) ss) ≡ after a (onward (stepped t n s ms b) (forward_from x (suc n) ss))
-    go (to v) rest =
-        let sum : a + b + (v - s) ≡ a + (b + (v - s)) = omega arith in
-        ap (forward_from x (suc n) ss (ms ++ (v ∷ []))) sum ∙ rest v
-    go (bad k) rest = refl
-
-pub page-after : (k : List ℕ) (x : Source) (p : ℕ) (ss : List ℕ) (a : ℕ) → forward_page k x p ss a ≡ after a (forward_page k x p ss 0)
-unfolding forward_page after
-page-after k x p ss a = go (is_open k p)
-  where
-    whole : a ≡ a + 0
-    whole = omega arith
-
-    go : (b : Bool) → cond b (so_far ss a) (forward_from x (64 * p) ss [] a) ≡ after a (cond b (so_far ss 0) (forward_from x (64 * p) ss [] 0))
-    go true = ap (so_far ss) whole
-    go false = ap (forward_from x (64 * p) ss []) whole ∙ from-after x a ss (64 * p) [] 0

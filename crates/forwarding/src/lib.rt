@@ -1,15 +1,13 @@
 // The counters of the pages that the shadow lists, brought forward.
 #![tactic(auto)]
 
-ghost use Rattle.std.specs.Prelude.{◌≡◌, cond, ℕ, suc, ◌+◌, ◌*◌, ◌<◌, ◌≤◌, length, get_or, take, IfOk};
-ghost use Rattle.memory_map.specs.Map.Item.{node};
-ghost use Rattle.memory_map.specs.Map.{InMap};
+ghost use Rattle.std.specs.Prelude.{◌≡◌, cond, ℕ, ◌+◌, ◌*◌, ◌<◌, ◌≤◌, length, get_or, take};
 ghost use Rattle.counter.specs.Counter.{counter_block};
 ghost use Rattle.control.specs.Control.{control_length, is_open};
 ghost use Rattle.cache.specs.Cache.{with_slot};
 ghost use Rattle.node.specs.Sized.{Sized};
 ghost use Rattle.journal.specs.Journal.{media};
-ghost use Rattle.calls.specs.Recovery.{by_phase, by_choice, line_step, rebuild_block, rebuild_blocks};
+ghost use Rattle.calls.specs.Recovery.{by_phase, by_choice, line_step, rebuild_blocks};
 ghost use Rattle.forwarding.specs.Rebuild.{Placed, source_is, as_step, counted};
 
 use answer::Refusal;
@@ -89,40 +87,6 @@ fn put_block(image: &mut [u8], s: usize, owner: u64, major: u64, minors: &[u8])
     minors::pack(major, minors, at + 9, image);
 }
 
-// Fills a slot with the block of a page: the sum of the steps by which its minors are brought forward.
-fn rebuild_counter(
-    h: usize,
-    keys: &[u8],
-    control: &[u8],
-    array: &[u8],
-    s: usize,
-    page: usize,
-    image: &mut [u8],
-) -> Result<u64, Failed>
-    requires { (length keys.now ≡ 48) × ((length control.now ≡ control_length)
-        × (Sized h array.now image.old × ((s < 4) × InMap h (node 0 page)))) }
-    ensures told { counted result image.new
-        ≡ rebuild_block h keys.now (media array.now control.now) image.old 0 s page }
-    ensures few { IfOk result (λ n. n ≤ 192) }
-{
-    let family = control::family(control);
-    let block = node::in_cell(array, memory_map::node_cell(h, 0, page));
-    let major = counter::major(block);
-    let mut minors = [0u8; 64];
-    minors::unpack(block, &mut minors);
-    let mut sum = 0;
-    for j in 0..lines_read(control, page) {
-        let line = (64 * page + j) as u64;
-        let failed = |refusal| Failed { refusal, line };
-        let minor = minors[j];
-        let new = step(family, keys, array, 64 * page + j, major, minor).map_err(failed)?;
-        minors[j] = new;
-        sum += (new - minor) as u64;
-    }
-    put_block(image, s, page as u64 + 1, major, &minors);
-    Ok(sum)
-}
-
 // Fills the counter slots that have an owner: each block of the array with its minors brought forward by the cells
 // of their lines, or as it is where its page is open. The first line that fails ends it.
 pub fn rebuild_counters(
@@ -139,12 +103,36 @@ pub fn rebuild_counters(
         ≡ rebuild_blocks h keys.now (media array.now control.now) 0 (take 4 owners)
         image.old 0 }
 {
+    let family = control::family(control);
     let mut sum = 0;
-    for s in 0..4 {
+    let mut failed = None;
+    'slots: for s in 0..4 {
         let owner = owners[s] as usize;
         if owner != 0 {
-            sum += rebuild_counter(h, keys, control, array, s, owner - 1, image)?;
+            let page = owner - 1;
+            let block = node::in_cell(array, memory_map::node_cell(h, 0, page));
+            let major = counter::major(block);
+            let mut minors = [0u8; 64];
+            minors::unpack(block, &mut minors);
+            for j in 0..lines_read(control, page) {
+                let minor = minors[j];
+                match step(family, keys, array, 64 * page + j, major, minor) {
+                    Ok(new) => {
+                        minors[j] = new;
+                        sum += (new - minor) as u64;
+                    }
+                    Err(refusal) => {
+                        let line = (64 * page + j) as u64;
+                        failed = Some(Failed { refusal, line });
+                        break 'slots;
+                    }
+                }
+            }
+            put_block(image, s, owner as u64, major, &minors);
         }
     }
-    Ok(sum)
+    match failed {
+        None => Ok(sum),
+        Some(failed) => Err(failed),
+    }
 }
