@@ -63,7 +63,7 @@ module _ (cell : List ℕ) (i : ℕ) where
       ∙ ap₂ (λ (a : Bool) (l : List ℕ). a && all_zero l) (zero_word (part cell (8 * i) 8))
       (drop-drop 8 (8 * i) cell ∙ ap (λ (n : ℕ). drop n cell) next)
 
-zeros-end : (cell : List ℕ) (i : ℕ) → length cell ≡ 72 → 9 ≤ i → all_zero (drop (8 * i) cell) ≡ true
+pub zeros-end : (cell : List ℕ) (i : ℕ) → length cell ≡ 72 → 9 ≤ i → all_zero (drop (8 * i) cell) ≡ true
 unfolding all_zero
 zeros-end cell i size p =
     let past : length cell ≤ 8 * i = omega arith in

@@ -24,13 +24,6 @@ deep c =
 expected : (c : After-cache_length-size) → c.cache_length-size.result ≡ cache_length (depth c.args.control.now)
 expected c = c.cache_length-size.ensures ∙ ap cache_length c.depth-h.ensures
 
--- what the last test says
-judge : (c : After-formed) (b : Bool) → c.formed.result ≡ b → cond b 0 23 ≡ list_refusal c.args.control.now c.args.cache.now c.args.out.now
-judge c b e =
-    by-formed _ _ _ c.if-control-ne-LENGTH.false (sym c.valid.ensures ∙ c.if-not-valid.false)
-    (c.if-cache-size.false ∙ c.cache_length-size.ensures ∙ ap cache_length c.depth-h.ensures)
-    c.if-out-ne32.false b (ap (λ (h : ℕ). formed h c.args.cache.now) (sym c.depth-h.ensures) ∙ sym c.formed.ensures ∙ e)
-
 pub returns-then-control-ne-LENGTH : goal.returns-then-control-ne-LENGTH
 returns-then-control-ne-LENGTH c = wrong-control _ _ _ c.if-control-ne-LENGTH.true
 
@@ -56,6 +49,13 @@ pub formed-requires : goal.formed-requires
 formed-requires c =
     let h = deep (goal.at.formed-requires c).After-depth-h in
     (h.0, (h.1, c.if-cache-size.false ∙ c.cache_length-size.ensures))
+
+-- what the last test says
+judge : (c : After-formed) (b : Bool) → c.formed.result ≡ b → cond b 0 23 ≡ list_refusal c.args.control.now c.args.cache.now c.args.out.now
+judge c b e =
+    by-formed _ _ _ c.if-control-ne-LENGTH.false (sym c.valid.ensures ∙ c.if-not-valid.false)
+    (c.if-cache-size.false ∙ c.cache_length-size.ensures ∙ ap cache_length c.depth-h.ensures)
+    c.if-out-ne32.false b (ap (λ (h : ℕ). formed h c.args.cache.now) (sym c.depth-h.ensures) ∙ sym c.formed.ensures ∙ e)
 
 pub returns-then-not-formed : goal.returns-then-not-formed
 returns-then-not-formed c = judge (goal.at.returns-then-not-formed c).After-formed false c.if-not-formed.true

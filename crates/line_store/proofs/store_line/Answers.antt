@@ -82,7 +82,7 @@ returns-then-stores-n c =
     let staged = staging y c.args.family c.args.keys.now v c.args.w.major c.args.w.minor c.gather-n.ensures.control_after c.gather-n.ensures.value in
     let ran : Ran c.args.array.now c.gather-n.new.control c.gather-n.result (get_or c.path_tags-tags.result c.args.h 0) c.args.allowance (media c.run-stores.new.array c.run-stores.new.control) c.run-stores.result = record { left = c.run-stores.ensures.control_after; number = c.run-stores.ensures.value } in
     write-cut y c.args.family c.args.keys.now v c.args.w.major c.args.w.minor c.path_tags-tags.result known staged
-    refl ran _ c.if-stores-n.true
+    refl ran _ (omega (arith, c.if-stores-n.true))
 
 pub load_missing-requires : goal.load_missing-requires
 load_missing-requires c =

@@ -61,7 +61,7 @@ returns-then-stores-n c =
     let counted : c.args.missing ≡ missing c.args.cache.now c.args.p (suc c.args.h) = c.requires.1.1.1.1 in
     let staged : Staged c.args.h c.args.allowance c.args.array.now c.args.control.now (path_cells c.args.h c.args.cache.now c.args.p (suc c.args.h)) c.gather-n.new.control c.gather-n.result = settling ready counted c.if-missing-eq0.false c.gather-n.ensures.control_after c.gather-n.ensures.value in
     let ran : Ran c.args.array.now c.gather-n.new.control c.gather-n.result c.root-root.result c.args.allowance (media c.run-stores.new.array c.run-stores.new.control) c.run-stores.result = record { left = c.run-stores.ensures.control_after; number = c.run-stores.ensures.value } in
-    settle-cut ready staged c.root-root.ensures ran c.if-stores-n.true
+    settle-cut ready staged c.root-root.ensures ran (omega (arith, c.if-stores-n.true))
 
 pub returns : goal.returns
 returns c =

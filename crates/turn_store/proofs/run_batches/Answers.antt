@@ -140,7 +140,7 @@ returns-then-made-n c =
     turned-makes _ c.args.keys.now _ begins turning few-left c.requires.block_value.0
     c.put_last-n.ensures.control_after c.put_last-n.ensures.value c.requires.block_value.1
     (record { left = c.run_turn-made.ensures.control_after; number = c.run_turn-made.ensures.value })
-    c.family-family.ensures c.root-old.ensures (lt-leb _ _ c.if-made-n.true)
+    c.family-family.ensures c.root-old.ensures (lt-leb _ _ (omega (arith, c.if-made-n.true)))
 
 pub returns : goal.returns
 returns c =
@@ -152,4 +152,4 @@ returns c =
     turned-makes _ c.args.keys.now _ begins turning few-left c.requires.block_value.0
     c.put_last-n.ensures.control_after c.put_last-n.ensures.value c.requires.block_value.1
     (record { left = c.run_turn-made.ensures.control_after; number = c.run_turn-made.ensures.value })
-    c.family-family.ensures c.root-old.ensures (le-leb _ _ c.if-made-n.false)
+    c.family-family.ensures c.root-old.ensures (le-leb _ _ (omega (arith, c.if-made-n.false)))
